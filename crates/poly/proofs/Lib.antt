@@ -1,0 +1,4 @@
+pub mod Product
+pub mod Division
+pub mod Strings
+pub mod Walks

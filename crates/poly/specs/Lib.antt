@@ -1,0 +1,4 @@
+pub mod Poly
+pub mod Period
+pub mod Rules
+pub mod Claims
