@@ -1,4 +1,5 @@
 pub mod Product
 pub mod Division
 pub mod Strings
+pub mod Steps
 pub mod Walks

@@ -6,6 +6,7 @@ use Prim.Native.Nat.{ℕ, zero, suc, _+_, _^_, _<_, _≤_}
 use lib.Dec.{eqb}
 use Rattle.std.specs.declared.option.Option.{Option}
 use Rattle.std.specs.declared.option.Option.the-variants.{Some, None}
+use Rattle.poly.specs.declared.walk.Walk.{Walk}
 use Rattle.poly.specs.Poly.{rem}
 
 -- X^i leaves 1.
@@ -29,3 +30,12 @@ Walked h low limit None steps = NoReturn h low (limit + 1) × (steps ≡ limit)
 unfoldable pub firstReturn : ℕ → ℕ → ℕ → Option ℕ
 firstReturn h low zero = None
 firstReturn h low (suc n) = elim (firstReturn h low n) [ Some i ↦ Some i | None ↦ cond (eqb (rem h low (2 ^ suc n)) 1) (Some (suc n)) None ]
+
+-- The steps of a search up to limit: the period, or the limit.
+abbrev pub stepsOf : ℕ → Option ℕ → ℕ
+stepsOf limit (Some i) = i
+stepsOf limit None = limit
+
+-- What the period call answers: it looks as far as 32,768.
+abbrev pub walkOf : ℕ → ℕ → Walk
+walkOf h low = record { period = firstReturn h low 32768; steps = stepsOf 32768 (firstReturn h low 32768) }

@@ -4,7 +4,7 @@ ghost use mathlib.Core.Path.{_≡_};
 
 #[derive(Clone, Copy)]
 pub struct Generator {
-    degree: u8,
-    low: u32,
+    pub(crate) degree: u8,
+    pub(crate) low: u32,
     ghost ok: { (2 ≤ degree) × (degree ≤ 32) × (low < 2 ^ degree) × (low % 2 ≡ 1) },
 }
