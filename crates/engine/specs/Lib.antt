@@ -1,0 +1,4 @@
+pub mod Feed
+pub mod Rules
+pub mod Meaning
+pub mod Tables

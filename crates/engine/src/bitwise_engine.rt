@@ -1,0 +1,49 @@
+// How the bitwise engine steps.
+ghost use mathlib.Core.Path.{_≡_};
+ghost use Rattle.engine.specs.Meaning.{carriesAll};
+use crate::bitwise::Bitwise;
+use crate::engine::Engine;
+use crate::stepping::feed_bits;
+use crate::stepping::generator_of;
+use crate::stepping::least;
+use answer::fault::Fault;
+
+pub impl Engine for Bitwise as BitwiseEngine {
+    ghost degreeOf = { λ e. e .generator .degree };
+
+    ghost lowOf = { λ e. e .generator .low };
+
+    ghost registerOf = { λ e. e .register };
+
+    ghost carriesOf = { λ _. carriesAll };
+
+    // X^8 + 1
+    fn new() -> Self
+        ensures register { λ e. ⌜ e .register ≡ 0 ⌝ }
+        ensures degree { λ e. ⌜ e .generator .degree ≡ 8 ⌝ }
+        ensures low { λ e. ⌜ e .generator .low ≡ 1 ⌝ }
+    {
+        Bitwise {
+            generator: least(),
+            register: 0,
+        }
+    }
+
+    fn set(&mut self, degree: u8, low: u32) -> Result<(), Fault> {
+        self.generator = generator_of(degree, low)?;
+        self.register = 0;
+        Ok(())
+    }
+
+    fn clear(&mut self) {
+        self.register = 0;
+    }
+
+    fn feed(&mut self, q: u8) {
+        self.register = feed_bits(self.generator, self.register, q);
+    }
+
+    fn value(&self) -> u32 {
+        self.register
+    }
+}
