@@ -2,8 +2,14 @@
 pub mod bitwise;
 pub mod bitwise_engine;
 pub mod engine;
+pub mod fast;
+pub mod fast_engine;
 mod filling;
+mod ieee;
 mod look_up;
+mod product;
+pub mod ready_made;
+pub mod ready_made_engine;
 mod stepping;
 pub mod table;
 pub mod table_engine;

@@ -196,7 +196,7 @@ clmul-assoc a b c =
 
 -- ---- the product bit by bit of a, lowest first
 
-clmul-more : (a q i : ℕ) → clmul (a % 2 ^ (i + 1)) q ≡ bitXor (clmul (a % 2 ^ i) q) (a / 2 ^ i % 2 * q * 2 ^ i)
+pub clmul-more : (a q i : ℕ) → clmul (a % 2 ^ (i + 1)) q ≡ bitXor (clmul (a % 2 ^ i) q) (a / 2 ^ i % 2 * q * 2 ^ i)
 clmul-more a q i =
     let e : i + 1 ≡ 1 + i = omega arith in
     let b : ℕ = a / 2 ^ i % 2 in
