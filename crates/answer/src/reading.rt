@@ -44,7 +44,8 @@ impl Fault {
         ensures { λ r. ⌜ r ≡ refusalOf self .layer ⌝ }
     {
         match self {
-            Fault::Command | Fault::Digit(_) | Fault::Operands(_) | Fault::LineLimit(_) => Layer::Line,
+            Fault::Command | Fault::Digit(_) | Fault::Operands(_) | Fault::LineLimit(_) =>
+                Layer::Line,
             Fault::EngineDegree | Fault::EngineLow | Fault::NotCarried => Layer::Engine,
             Fault::Unserved
             | Fault::KindField(_)
@@ -77,7 +78,11 @@ impl Fault {
             Fault::Unserved => 2,
             Fault::EngineDegree => 3,
             Fault::EngineLow | Fault::NotCarried => 4,
-            Fault::Reach | Fault::NotBelow | Fault::OverReach | Fault::FrameLength | Fault::WordLength => 12,
+            Fault::Reach
+            | Fault::NotBelow
+            | Fault::OverReach
+            | Fault::FrameLength
+            | Fault::WordLength => 12,
             Fault::Digit(place)
             | Fault::Operands(place)
             | Fault::LineLimit(place)

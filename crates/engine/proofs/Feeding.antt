@@ -1,7 +1,8 @@
 -- Feeding bytes to a register, as a division and as the engines do it.
 -- Assumes nothing.
 use mathlib.Core.Path.{_≡_, refl, sym, ap, ap₂, _∙_, subst}
-use mathlib.Core.List.{List, [], _∷_, _++_}
+use mathlib.Core.List.{List, [], _∷_, _++_, append-assoc, append-nil}
+use denote.Ref.{RefT}
 use Prim.Native.Nat.{ℕ, zero, suc, _+_, _-_, _*_, _/_, _%_, _^_, _≤_, _<_}
 use native.Mathlib.Nat.{zero-mul, one-mul, mul-assoc, mul-comm, mul-div-mul-right, mod-lt, sub-add-cancel}
 use native.Mathlib.Omega.{arith}
@@ -14,6 +15,7 @@ use Rattle.poly.proofs.Product.{xor-shl, xor-parts, xor-cancel-r, clmul-xor-r}
 use Rattle.poly.proofs.Division.{clmul-lt, shl-is, rem-xor, rem-shl, rem-small, rem-lt, rem-zero, rem-multiple}
 use Rattle.poly.proofs.Strings.{joined, joined-append, joined-string}
 use Rattle.engine.specs.Feed.{fed, fedAll}
+use Rattle.engine.specs.Pieces.{Holds, Carries-on, flat}
 
 pub fedAll-append : (h low r : ℕ) (s t : List ℕ) → fedAll h low r (s ++ t) ≡ fedAll h low (fedAll h low r s) t
 fedAll-append h low r [] t = refl
@@ -143,3 +145,37 @@ module _ (h low : ℕ) (small : low < 2 ^ h) where
         ap₂ (λ k t. bitXor k (clmul t low)) ek et
         ∙ ap (bitXor (r * 2 ^ 8 % 2 ^ h)) (sym (rem-fast (bitXor (r / 2 ^ (h - 8)) q) (top-lt r q lr lq) ll))
         ∙ sym (fed-table r q)
+
+-- ---- whole strings, as contracts have them
+
+-- nothing leaves nothing
+pub holds-none : (h low r : ℕ) → low < 2 ^ h → r ≡ 0 → Holds h low r []
+holds-none h low r small e = e ∙ sym (ap (rem h low) (zero-mul (2 ^ h)) ∙ rem-zero h low small)
+
+pub carried-on : (h low before after : ℕ) (piece : List ℕ) → low < 2 ^ h → after ≡ fedAll h low before piece → Carries-on h low before after piece
+carried-on h low before after piece small e s held =
+    e ∙ ap (λ r. fedAll h low r piece) held ∙ fedAll-piece h low small s piece
+
+-- a message fed to a register of zero: h′ and low′ are the engine's degree and low part
+pub fed-message : (h low h′ low′ before after : ℕ) (message : List ℕ) → low′ < 2 ^ h′ → h′ ≡ h → low′ ≡ low → before ≡ 0
+    → after ≡ fedAll h′ low′ before message → after ≡ remainder h low message
+fed-message h low h′ low′ before after message small eh el eb e =
+    e ∙ ap (λ r. fedAll h′ low′ r message) eb ∙ fedAll-string h′ low′ small message ∙ ap₂ (λ h low. remainder h low message) eh el
+
+-- ---- pieces
+
+flat-append : (ps qs : List (RefT (List ℕ))) → flat (ps ++ qs) ≡ flat ps ++ flat qs
+flat-append [] qs = refl
+flat-append (p ∷ ps) qs = ap (λ x. p .now ++ x) (flat-append ps qs) ∙ sym (append-assoc (p .now) (flat ps) (flat qs))
+
+-- one piece more
+pub flat-more : (ps : List (RefT (List ℕ))) (i : ℕ) (d : RefT (List ℕ)) → i < length ps → flat (take (i + 1) ps) ≡ flat (take i ps) ++ getD ps i d .now
+flat-more ps i d h = rw (take-more ps i d h, flat-append, append-nil)
+
+pub piece-more : (h low h′ low′ before after : ℕ) (ps : List (RefT (List ℕ))) (i : ℕ) (d : RefT (List ℕ)) → h′ ≡ h → low′ ≡ low → i < length ps
+    → before ≡ remainder h low (flat (take i ps)) → Carries-on h′ low′ before after (getD ps i d .now)
+    → after ≡ remainder h low (flat (take (i + 1) ps))
+piece-more h low h′ low′ before after ps i d eh el lt held on =
+    on (flat (take i ps)) (held ∙ sym (ap₂ (λ h low. remainder h low (flat (take i ps))) eh el))
+    ∙ ap₂ (λ h low. remainder h low (flat (take i ps) ++ getD ps i d .now)) eh el
+    ∙ ap (remainder h low) (sym (flat-more ps i d lt))

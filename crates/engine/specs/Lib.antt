@@ -2,3 +2,4 @@ pub mod Feed
 pub mod Rules
 pub mod Meaning
 pub mod Tables
+pub mod Pieces

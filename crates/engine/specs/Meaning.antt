@@ -25,3 +25,11 @@ carriesIeee h low = eqb h 32 && eqb low 0x04C11DB7
 -- The fast engine: low parts of a degree of at most h - 8.
 abbrev pub carriesShort : ℕ → ℕ → Bool
 carriesShort h low = ltb low (2 ^ (h - 7))
+
+-- An engine set to a generator and fed a string which leaves r, or left as it was, by the choice `pick`: its degree, low part,
+-- register and what it carries, before and after.
+pub record Left (pick : ℕ → ℕ → ℕ) (degree low r : ℕ) (h₀ low₀ r₀ : ℕ) (c₀ : ℕ → ℕ → Bool) (h₁ low₁ r₁ : ℕ) (c₁ : ℕ → ℕ → Bool) : Type 0 where
+  pub degree-after : h₁ ≡ pick degree h₀
+  pub low-after : low₁ ≡ pick low low₀
+  pub register-after : r₁ ≡ pick r r₀
+  pub carries-after : c₁ ≡ c₀

@@ -10,6 +10,8 @@ mod look_up;
 mod product;
 pub mod ready_made;
 pub mod ready_made_engine;
+pub mod remainder;
+pub mod running;
 mod stepping;
 pub mod table;
 pub mod table_engine;

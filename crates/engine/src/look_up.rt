@@ -20,7 +20,12 @@ pub(crate) fn look_up(entries: &[u32; 256], generator: Generator, register: u32,
 }
 
 // The register after a string.
-pub(crate) fn look_up_all(entries: &[u32; 256], generator: Generator, register: u32, bytes: &[u8]) -> u32
+pub(crate) fn look_up_all(
+    entries: &[u32; 256],
+    generator: Generator,
+    register: u32,
+    bytes: &[u8],
+) -> u32
     requires { ⌜ 8 ≤ generator .degree ⌝ ∗ ⌜ register < 2 ^ (generator .degree) ⌝ ∗ ⌜ Entries (generator .degree) (generator .low) (generator .degree) (now entries) ⌝ }
     ensures fed { λ r. ⌜ r ≡ fedAll (generator .degree) (generator .low) register (now (bytes .entry)) ⌝ }
     ensures below { λ r. ⌜ r < 2 ^ (generator .degree) ⌝ }

@@ -11,5 +11,5 @@ Inv-loop-b g l =
     (e .degreeOf (l .self) ≡ e .degreeOf (l .entry .self))
     × (e .lowOf (l .self) ≡ e .lowOf (l .entry .self))
     × (e .registerOf (l .self)
-      ≡ fedAll (e .degreeOf (l .entry .self)) (e .lowOf (l .entry .self)) (e .registerOf (l .entry .self)) (take (l .b-index) (l .bytes)))
+    ≡ fedAll (e .degreeOf (l .entry .self)) (e .lowOf (l .entry .self)) (e .registerOf (l .entry .self)) (take (l .b-index) (l .bytes)))
     × (e .carriesOf (l .self) ≡ e .carriesOf (l .entry .self))
