@@ -2,3 +2,8 @@ pub mod Product
 pub mod Division
 pub mod Strings
 pub mod Walks
+pub mod Divide
+pub mod Ones
+pub mod Digits
+pub mod Multiples
+pub mod Computed
