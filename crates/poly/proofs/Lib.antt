@@ -3,3 +3,8 @@ pub mod Division
 pub mod Strings
 pub mod Steps
 pub mod Walks
+pub mod Divide
+pub mod Ones
+pub mod Digits
+pub mod Multiples
+pub mod Computed
