@@ -1,0 +1,3 @@
+// The example of every row of the table of answers, through the call that gives it. There is no code here but the tests.
+#[cfg(test)]
+mod engines;
