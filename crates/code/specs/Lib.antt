@@ -1,2 +1,6 @@
 pub mod Flips
 pub mod Words
+pub mod Model
+pub mod Bank
+pub mod Fields
+pub mod CrcModel

@@ -1,2 +1,4 @@
-// Check codes: the laws of a CRC, of a CRC with a parity bit and of a weighted sum.
+// Kinds of code: descriptions, sheets, the three kinds, banks, and the laws of the codes.
+pub mod description;
+pub mod kind;
 pub mod laws;
