@@ -36,11 +36,18 @@ crcReaches d reach =
 abbrev pub crcDegree : ℕ → Bool
 crcDegree h = eqb h 8 || eqb h 16 || eqb h 24 || eqb h 32
 
--- What kind 1 asks of a description before the engine is asked.
+abbrev pub crcServes : ℕ → Bool
+crcServes k = eqb k 1
+
+-- What kind 1 asks of the fields of a description.
 abbrev pub crcFields : Description → List Rule
 crcFields d =
     rule (crcDegree (d .degree)) (refusal 12 Kind 3)
     ∷ (oneGenerator d ++ (rule (properLow (d .degree) (d .low)) (refusal 13 Kind 4) ∷ []))
+
+-- What kind 1 asks of a description before the engine is asked.
+abbrev pub crcAsks : Description → List Rule
+crcAsks d = rule (crcServes (d .kind)) (refusal 11 Kind 2) ∷ crcFields d
 
 abbrev pub evenTerms : Description → Bool
 evenTerms d = eqb (terms (d .degree) (d .low) % 2) 0
@@ -48,7 +55,7 @@ evenTerms d = eqb (terms (d .degree) (d .low) % 2) 0
 -- Kind 1 over an engine that carries what `carries` says.
 abbrev pub crcModel : (ℕ → ℕ → Bool) → Model
 crcModel carries = record {
-  serves = λ k. eqb k 1;
+  serves = crcServes;
   fits = λ d. crcFields d ++ (rule (carries (d .degree) (d .low)) (refusal 15 Engine 4) ∷ []);
   reaches = crcReaches;
   sheet = λ d. record {
