@@ -8,3 +8,5 @@ pub mod Head
 pub mod Samples
 pub mod DigitBytes
 pub mod Far
+pub mod Asking
+pub mod CrcLaws

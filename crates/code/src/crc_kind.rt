@@ -1,6 +1,6 @@
 // Kind 1, the CRC, over any engine: the check is the remainder of the message.
 ghost use mathlib.Core.Path.{_≡_};
-ghost use Prim.Native.Nat.{ℕ, _+_, _*_};
+ghost use Prim.Native.Nat.{ℕ, _+_, _*_, _%_, _^_, _<_, _≤_};
 ghost use Rattle.std.specs.Vec.{made};
 ghost use Rattle.answer.specs.Refusal.{read};
 ghost use Rattle.answer.specs.Rules.{byRules};
@@ -20,7 +20,7 @@ use poly::period::period;
 
 #[derive(Drop)]
 pub struct Crc<E> {
-    engine: E,
+    pub(crate) engine: E,
 }
 
 // The fields that a code with one generator leaves unused, and a tuple of one byte.
@@ -65,7 +65,7 @@ impl<E: Engine> Crc<E> {
     }
 
     // Asks all of a description; then the engine has its generator, and a register of zero.
-    fn fit(&mut self, d: Description) -> Result<(), Fault>
+    pub(crate) fn fit(&mut self, d: Description) -> Result<(), Fault>
         ensures answer { λ r. ⌜ read r ≡ byRules (describedRules (crcModel (carriesOf (now (self .entry) .engine))) d) tt ⌝ }
         ensures carries { λ _. ⌜ carriesOf (now (self .exit) .engine) ≡ carriesOf (now (self .entry) .engine) ⌝ }
         ensures degree { λ r. ⌜ made r (λ _. degreeOf (now (self .exit) .engine) ≡ d .degree) ⌝ }
@@ -75,4 +75,26 @@ impl<E: Engine> Crc<E> {
         fields(d)?;
         self.engine.set(d.degree, d.low)
     }
+}
+
+// The check bytes of a generator.
+pub(crate) fn check_bytes(degree: u8) -> u16
+    ensures { λ r. ⌜ r ≡ checkBytes degree ⌝ }
+{
+    (u16::from(degree) + 7) / 8
+}
+
+// A lawful reach, and a period of at least its bits.
+pub(crate) fn crc_reaches(d: Description, reach: u16) -> Result<(), Fault>
+    requires { ⌜ 2 ≤ d .degree ⌝ ∗ ⌜ d .degree ≤ 32 ⌝ ∗ ⌜ d .low < 2 ^ (d .degree) ⌝ ∗ ⌜ d .low % 2 ≡ 1 ⌝ }
+    ensures { λ r. ⌜ read r ≡ byRules (crcReaches d reach) tt ⌝ }
+{
+    if !lawful_reach(1, check_bytes(d.degree), reach) {
+        return Err(Fault::Reach);
+    }
+    let walk = period(d.degree, d.low)?;
+    if !at_least(walk.period, 8 * reach) {
+        return Err(Fault::Period(4));
+    }
+    Ok(())
 }

@@ -8,3 +8,4 @@ pub mod Ones
 pub mod Digits
 pub mod Multiples
 pub mod Computed
+pub mod Terms

@@ -1,0 +1,75 @@
+// The four calls of kind 1.
+ghost use mathlib.Core.Path.{_≡_};
+ghost use Rattle.std.specs.Vec.{made};
+ghost use Rattle.answer.specs.Refusal.{read};
+ghost use Rattle.code.specs.Model.{asked};
+ghost use Rattle.code.specs.Admitted.{admitted};
+ghost use Rattle.code.specs.CrcModel.{crcModel};
+use crate::admitted_crc::AdmittedCrc;
+use crate::bytes::put;
+use crate::crc_kind::Crc;
+use crate::crc_kind::check_bytes;
+use crate::crc_kind::crc_reaches;
+use crate::description::Description;
+use crate::description::Sheet;
+use crate::fields::even_terms;
+use crate::fields::is_whole;
+use crate::kind::Kind;
+use answer::fault::Fault;
+use engine::engine::Engine;
+
+impl<E: Engine> Crc<E> {
+    // What is admitted, as a value that has the facts of its law.
+    pub fn admitted(&mut self, d: Description, reach: u16) -> Result<AdmittedCrc, Fault>
+        ensures answer { λ r. ⌜ admitted r ≡ asked (crcModel (carriesOf (now (self .entry) .engine))) .admission d reach ⌝ }
+        ensures description { λ r. ⌜ made r (λ a. a .description ≡ d) ⌝ }
+        ensures reach { λ r. ⌜ made r (λ a. a .reach ≡ reach) ⌝ }
+        ensures carries { λ _. ⌜ carriesOf (now (self .exit) .engine) ≡ carriesOf (now (self .entry) .engine) ⌝ }
+    {
+        self.fit(d)?;
+        crc_reaches(d, reach)?;
+        Ok(AdmittedCrc {
+            description: d,
+            reach,
+        })
+    }
+}
+
+pub impl<E: Engine> Kind for Crc<E> as CrcKind {
+    ghost model = { λ k. crcModel (E·Engine .carriesOf (k .engine)) };
+
+    fn serves(&self, kind: u8) -> bool {
+        kind == 1
+    }
+
+    fn admit(&mut self, d: Description, reach: u16) -> Result<(), Fault> {
+        self.admitted(d, reach)?;
+        Ok(())
+    }
+
+    fn sheet(&mut self, d: Description) -> Result<Sheet, Fault> {
+        self.fit(d)?;
+        let even = even_terms(d.degree, d.low);
+        Ok(Sheet {
+            check: check_bytes(d.degree),
+            tuple: 1,
+            burst: u16::from(d.degree),
+            few: if even { 3 } else { 2 },
+            odd: even,
+        })
+    }
+
+    fn check(&mut self, d: Description, message: &[u8], out: &mut [u8]) -> Result<usize, Fault> {
+        self.fit(d)?;
+        if !is_whole(message, 1) {
+            return Err(Fault::Message(message.len()));
+        }
+        let count = usize::from(check_bytes(d.degree));
+        if out.len() < count {
+            return Err(Fault::Output(out.len()));
+        }
+        self.engine.feed_all(message);
+        put(out, 0, count, self.engine.value());
+        Ok(count)
+    }
+}
