@@ -10,3 +10,6 @@ pub mod DigitBytes
 pub mod Far
 pub mod Asking
 pub mod CrcLaws
+pub mod Evenness
+pub mod Fitted
+pub mod ParityLaws

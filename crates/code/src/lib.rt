@@ -7,3 +7,5 @@ pub mod description;
 mod fields;
 pub mod kind;
 pub mod laws;
+pub mod parity_asked;
+pub mod parity_kind;
