@@ -13,3 +13,4 @@ pub mod CrcLaws
 pub mod Evenness
 pub mod Fitted
 pub mod ParityLaws
+pub mod Texts

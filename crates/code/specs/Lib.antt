@@ -6,3 +6,4 @@ pub mod Fields
 pub mod CrcModel
 pub mod Admitted
 pub mod ParityModel
+pub mod Catalogue

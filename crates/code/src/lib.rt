@@ -1,6 +1,7 @@
 // Kinds of code: descriptions, sheets, the three kinds, banks, and the laws of the codes.
 pub mod admitted_crc;
 mod bytes;
+pub mod catalogue;
 pub mod crc_asked;
 pub mod crc_kind;
 pub mod description;
