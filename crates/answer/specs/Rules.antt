@@ -20,3 +20,12 @@ rule b r = record { asks = b; otherwise = r }
 abbrev pub byRules : {A : Type 0} → List Rule → A → Result A Refusal
 byRules [] v = Ok v
 byRules (r ∷ rs) v = cond (r .asks) (byRules rs v) (Err (r .otherwise))
+
+-- What `?` does: go on with the value, or pass the refusal up unchanged.
+abbrev pub then : {A B : Type 0} → Result A Refusal → (A → Result B Refusal) → Result B Refusal
+then (Ok v) f = f v
+then (Err r) f = Err r
+
+-- One rule by itself: kept, or the refusal.
+abbrev pub need : Bool → Refusal → Result (Unit {0}) Refusal
+need b r = cond b (Ok tt) (Err r)

@@ -1,0 +1,5 @@
+pub mod Layout
+pub mod Book
+pub mod Frame
+pub mod Calls
+pub mod Promises

@@ -1,0 +1,2 @@
+// Stations: frames, the book, and the calls over them.
+pub mod entry;
