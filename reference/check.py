@@ -622,7 +622,7 @@ def the_report():
     same(lines[16], "  no piece leaves 0000 by bitwise, table")
     same(lines[18], "")
     same(text.endswith("\n") and not text.endswith("\n\n"), True)
-    same(text[text.index("Refusals"):], """Refusals
+    same(text[text.index("Refusals"):text.index("\nCodes")], """Refusals
   engine set, degree 7, low part 07: 12 engine 3
   engine set, degree 33, low part 07: 12 engine 3
   engine set, degree 8, low part 06: 13 engine 4

@@ -8,7 +8,8 @@ import sys
 sys.dont_write_bytecode = True
 
 import poly                                                      # noqa: E402
-from codes import ENGINES, Refusal, period_call, set_engine      # noqa: E402
+from codes import (CATALOGUE, ENGINES, Description, Refusal,     # noqa: E402
+                   period_call, published, set_engine, three_kinds)
 
 GENERATORS = (
     ("CRC-16", 16, 0x8005),
@@ -129,6 +130,82 @@ def refusal_line(call, degree, low, engine):
         "0" if refusal is None else refusal)
 
 
+# the kinds: messages whose checks are printed
+CHECKED = (b"\x01", b"\x80", b"\x03", b"\x01\x01", b"123456789",
+           bytes(range(16)), ALL_BYTES)
+
+# a code of kind 3 with tuples of four bytes
+WIDE = Description(3, 32, 0x04C11DB7, 16, 0x8005, 4)
+
+# description, reach, engine
+ADMITTED = (
+    (Description(9, 8, 0x07, 0, 0, 1), 15, "table"),
+    (Description(1, 12, 0x07, 0, 0, 1), 15, "table"),
+    (Description(1, 8, 0x07, 1, 0, 1), 15, "table"),
+    (Description(1, 8, 0x07, 0, 1, 1), 15, "table"),
+    (Description(1, 8, 0x07, 0, 0, 2), 15, "table"),
+    (Description(3, 8, 0x1D, 9, 0x15, 1), 15, "table"),
+    (Description(1, 8, 0x06, 0, 0, 1), 15, "table"),
+    (Description(3, 8, 0x1D, 5, 0x14, 1), 15, "table"),
+    (Description(2, 15, 0x0001, 0, 0, 1), 15, "table"),
+    (Description(3, 8, 0x1D, 5, 0x05, 1), 15, "table"),
+    (Description(1, 16, 0x8005, 0, 0, 1), 15, "fast"),
+    (Description(1, 8, 0x07, 0, 0, 1), 1, "table"),
+    (Description(1, 16, 0x8005, 0, 0, 1), 4096, "table"),
+    (Description(3, 8, 0x1D, 2, 0x01, 1), 15, "table"),
+    (Description(1, 16, 0x8005, 0, 0, 1), 4095, "table"),
+)
+
+
+def spelled(d):
+    """The ten bytes of a description, field by field."""
+    return "%02X %02X %08X %02X %04X %02X" % d
+
+
+def code_block(name, d):
+    bank = three_kinds()
+    yield "%s: %s" % (name, spelled(d))
+    sheet = bank.sheet(d)
+    yield "  check %d, tuple %d, burst %d, few %d, odd %s" % (
+        sheet.check_bytes, sheet.tuple_bytes, sheet.burst, sheet.few,
+        "yes" if sheet.odd else "no")
+    reach = 4096
+    while refusal_of(bank.admission, d, reach) is not None:
+        reach -= sheet.tuple_bytes
+    more = refusal_of(bank.admission, d, reach + sheet.tuple_bytes)
+    yield "  greatest reach %d, one tuple more %s" % (reach, more)
+    for message in CHECKED:
+        try:
+            said = "has " + bank.check(d, message, 64).hex().upper()
+        except Refusal as refusal:
+            said = "is refused: %s" % refusal
+        yield "  %s %s" % (shown(message), said)
+    yield "  nothing is refused: %s" % refusal_of(bank.check, d, b"", 64)
+    yield "  one byte of room too few: %s" % refusal_of(
+        bank.check, d, bytes(4), sheet.check_bytes - 1)
+    yield ""
+
+
+def codes():
+    yield ""
+    yield "Codes"
+    yield ""
+    for name, d in CATALOGUE:
+        assert published(name) == d
+        for line in code_block(name, d):
+            yield line
+    for line in code_block("tuples of four bytes", WIDE):
+        yield line
+    yield "Admission"
+    for d, reach, engine in ADMITTED:
+        refusal = refusal_of(three_kinds(engine).admission, d, reach)
+        yield "  %s, reach %d, by %s: %s" % (
+            spelled(d), reach, engine,
+            "admitted" if refusal is None else refusal)
+    yield "  no published code is called CRC-17: %s" % (
+        "none" if published("CRC-17") is None else "some")
+
+
 def report():
     lines = []
     for name, degree, low in GENERATORS:
@@ -136,6 +213,7 @@ def report():
     lines.append("Refusals")
     for row in REFUSED:
         lines.append(refusal_line(*row))
+    lines.extend(codes())
     return "".join(line + "\n" for line in lines)
 
 

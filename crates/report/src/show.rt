@@ -1,6 +1,7 @@
 // How numbers and refusals are printed.
 use answer::fault::Fault;
 use answer::fault::Layer;
+use code::description::Description;
 use std::fmt;
 
 // A number in upper-case hexadecimal, with a least number of digits.
@@ -78,5 +79,24 @@ pub impl fmt::Display for Refused as RefusedDisplay {
         };
         let place = self.fault.place();
         write!(f, "{number} {layer} {place}")
+    }
+}
+
+// A description, field by field.
+#[derive(Clone, Copy)]
+pub struct Spelled {
+    pub description: Description,
+}
+
+pub impl fmt::Display for Spelled as SpelledDisplay {
+    fn fmt<W: fmt::Write>(&self, f: &mut fmt::Formatter<W>) -> fmt::Result {
+        let d = self.description;
+        let kind = d.kind;
+        let degree = d.degree;
+        let low = d.low;
+        let degree2 = d.degree2;
+        let low2 = d.low2;
+        let tuple = d.tuple;
+        write!(f, "{kind:02X} {degree:02X} {low:08X} {degree2:02X} {low2:04X} {tuple:02X}")
     }
 }
