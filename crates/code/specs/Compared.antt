@@ -1,0 +1,68 @@
+-- How kinds compare by their answers: banks of kinds that match or mean the same, CRCs over two engines, and what the two relations are.
+-- Assumes nothing.
+use mathlib.Core.Path.{_≡_}
+use mathlib.Core.Bool.{Bool, cond}
+use mathlib.Core.List.{List}
+use Prim.Native.Nat.{ℕ}
+use Rattle.code.specs.declared.description.Description.{Description}
+use Rattle.code.specs.Model.{Model, asked, Matches, MeansTheSame}
+use Rattle.code.specs.Bank.{joined}
+use Rattle.code.specs.CrcModel.{crcModel}
+
+-- ---- banks
+
+-- A bank answers as the left kind where that serves the description's number, and as the right one elsewhere.
+pub record AnswersAsOne (l r : Model) : Type 0 where
+  pub admissions : (d : Description) (reach : ℕ)
+      → asked (joined l r) .admission d reach ≡ cond (l .serves (d .kind)) (asked l .admission d reach) (asked r .admission d reach)
+  pub sheets : (d : Description)
+      → asked (joined l r) .sheet d ≡ cond (l .serves (d .kind)) (asked l .sheet d) (asked r .sheet d)
+  pub checks : (d : Description) (message : List ℕ) (room : ℕ)
+      → asked (joined l r) .check d message room
+      ≡ cond (l .serves (d .kind)) (asked l .check d message room) (asked r .check d message room)
+
+abbrev pub JoinedAnswers : Type 0
+JoinedAnswers = (l r : Model) → AnswersAsOne l r
+
+-- Banks of matching kinds match.
+abbrev pub JoinedMatches : Type 0
+JoinedMatches = (a b c d : Model) → Matches a c → Matches b d → Matches (joined a b) (joined c d)
+
+-- Banks of kinds that mean the same mean the same.
+abbrev pub JoinedMeansTheSame : Type 0
+JoinedMeansTheSame = (a b c d : Model) → MeansTheSame a c → MeansTheSame b d → MeansTheSame (joined a b) (joined c d)
+
+-- ---- the CRC
+
+-- CRCs match, whatever their engines carry.
+abbrev pub CrcMatches : Type 0
+CrcMatches = (p q : ℕ → ℕ → Bool) → Matches (crcModel p) (crcModel q)
+
+-- CRCs over engines that carry the same generators mean the same.
+abbrev pub CrcMeansTheSame : Type 0
+CrcMeansTheSame = (p q : ℕ → ℕ → Bool) → ((h low : ℕ) → p h low ≡ q h low) → MeansTheSame (crcModel p) (crcModel q)
+
+-- ---- the two relations
+
+-- Kinds that mean the same match.
+abbrev pub SameMatches : Type 0
+SameMatches = (a b : Model) → MeansTheSame a b → Matches a b
+
+abbrev pub MatchesReflexive : Type 0
+MatchesReflexive = (a : Model) → Matches a a
+
+abbrev pub MatchesSymmetric : Type 0
+MatchesSymmetric = (a b : Model) → Matches a b → Matches b a
+
+-- What matches a kind matches each that means the same.
+abbrev pub MatchesSame : Type 0
+MatchesSame = (a b c : Model) → Matches a b → MeansTheSame b c → Matches a c
+
+abbrev pub SameReflexive : Type 0
+SameReflexive = (a : Model) → MeansTheSame a a
+
+abbrev pub SameSymmetric : Type 0
+SameSymmetric = (a b : Model) → MeansTheSame a b → MeansTheSame b a
+
+abbrev pub SameTransitive : Type 0
+SameTransitive = (a b c : Model) → MeansTheSame a b → MeansTheSame b c → MeansTheSame a c
