@@ -1,17 +1,18 @@
 -- How kinds compare: lemmas for any kind, and the theorems on banks and on the CRC.
 -- Assumes nothing.
-use mathlib.Core.Path.{_≡_, refl, sym, subst, fun-ext, _∙_}
+use mathlib.Core.Path.{_≡_, refl, sym, ap, subst, fun-ext, _∙_}
 use mathlib.Core.Bool.{Bool, true, false, cond}
 use mathlib.Core.Logic.{⊎-elim}
 use mathlib.Core.List.{List, [], _∷_, _++_}
+use native.Mathlib.Omega.{arith}
 use Prim.Native.Nat.{ℕ}
 use lib.Dec.{leb}
 use lib.ListN.{length}
 use Rattle.std.specs.declared.result.Result.{Result}
 use Rattle.std.specs.declared.result.Result.the-variants.{Ok}
-use Rattle.answer.specs.declared.fault.Layer.the-variants.{Frame}
+use Rattle.answer.specs.declared.fault.Layer.the-variants.{Kind, Frame}
 use Rattle.answer.specs.Refusal.{Refusal, refusal}
-use Rattle.answer.specs.Rules.{rule}
+use Rattle.answer.specs.Rules.{Rule, rule}
 use Rattle.answer.proofs.Ruled.{ok-value}
 use Rattle.code.specs.declared.description.Description.{Description}
 use Rattle.code.specs.declared.description.Sheet.{Sheet}
@@ -19,7 +20,7 @@ use Rattle.code.specs.Flips.{Bytes}
 use Rattle.code.specs.Model.{Model, asked, describedRules, whole, Matches, MeansTheSame}
 use Rattle.code.specs.Bank.{joined}
 use Rattle.code.specs.CrcModel.{crcModel}
-use Rattle.code.specs.Compared.{JoinedAnswers, JoinedMatches, JoinedMeansTheSame, CrcMatches, CrcMeansTheSame, SameMatches, MatchesReflexive, MatchesSymmetric, MatchesSame, SameReflexive, SameSymmetric, SameTransitive}
+use Rattle.code.specs.Compared.{JoinedAnswers, JoinedMatches, JoinedMeansTheSame, CrcMatches, CrcMeansTheSame, SameMatches, MatchesReflexive, MatchesSymmetric, MatchesNotTransitive, MatchesSame, SameReflexive, SameSymmetric, SameTransitive}
 use Rattle.code.proofs.Joined.{sides}
 
 -- ---- the two relations
@@ -69,6 +70,38 @@ matches-same a b c m n = record {
 
 pub same-matches : SameMatches
 same-matches a b n = matches-same a a b (matches-reflexive a) n
+
+-- a kind that serves every number under some rules, with a sheet of t in every field
+some-kind : List Rule → ℕ → Model
+some-kind rules t = record {
+  serves = λ k. true;
+  fits = λ d. rules;
+  reaches = λ d reach. [];
+  sheet = λ d. record { check = t; tuple = t; burst = t; few = t; odd = true };
+  check = λ d message. [];
+}
+
+never : List Rule
+never = rule false (refusal 12 Kind 3) ∷ []
+
+refuses-match : (t u : ℕ) → Matches (some-kind never t) (some-kind [] u)
+unfolding some-kind never
+refuses-match t u = record {
+  serve = λ k. refl;
+  sheets = λ d s x p q. absurd (let z : _≡_ {A = ℕ} 0 1 = cc in omega arith);
+  checks = λ d message room x y bytes p q. absurd (let z : _≡_ {A = ℕ} 0 1 = cc in omega arith);
+}
+
+-- sheets of 1 and of 2 match that of a kind that refuses, and not each other
+pub matches-not-transitive : MatchesNotTransitive
+unfolding some-kind
+matches-not-transitive chain =
+    let one = matches-symmetric (some-kind never 1) (some-kind [] 1) (refuses-match 1 1) in
+    let both = chain (some-kind [] 1) (some-kind never 1) (some-kind [] 2) one (refuses-match 1 2) in
+    let d : Description = record { kind = 0; degree = 0; low = 0; degree2 = 0; low2 = 0; tuple = 0 } in
+    let e = both .sheets d (some-kind [] 1 .sheet d) (some-kind [] 2 .sheet d) refl refl in
+    let z : _≡_ {A = ℕ} 1 2 = ap (λ (s : Sheet). s .tuple) e in
+    omega arith
 
 -- ---- for any kind
 

@@ -48,16 +48,22 @@ CrcMeansTheSame = (p q : ℕ → ℕ → Bool) → ((h low : ℕ) → p h low �
 abbrev pub SameMatches : Type 0
 SameMatches = (a b : Model) → MeansTheSame a b → Matches a b
 
+-- To match is reflexive and symmetric ..
 abbrev pub MatchesReflexive : Type 0
 MatchesReflexive = (a : Model) → Matches a a
 
 abbrev pub MatchesSymmetric : Type 0
 MatchesSymmetric = (a b : Model) → Matches a b → Matches b a
 
+-- .. and not transitive: a kind that refuses every description matches all that serve the same numbers.
+abbrev pub MatchesNotTransitive : Type 0
+MatchesNotTransitive = ¬ ((a b c : Model) → Matches a b → Matches b c → Matches a c)
+
 -- What matches a kind matches each that means the same.
 abbrev pub MatchesSame : Type 0
 MatchesSame = (a b c : Model) → Matches a b → MeansTheSame b c → Matches a c
 
+-- To mean the same is an equivalence.
 abbrev pub SameReflexive : Type 0
 SameReflexive = (a : Model) → MeansTheSame a a
 

@@ -1,5 +1,5 @@
 // How kinds compare by their answers, each fact the contract of a function.
-ghost use Rattle.code.specs.Compared.{JoinedAnswers, JoinedMatches, JoinedMeansTheSame, CrcMatches, CrcMeansTheSame, SameMatches, MatchesReflexive, MatchesSymmetric, MatchesSame, SameReflexive, SameSymmetric, SameTransitive};
+ghost use Rattle.code.specs.Compared.{JoinedAnswers, JoinedMatches, JoinedMeansTheSame, CrcMatches, CrcMeansTheSame, SameMatches, MatchesReflexive, MatchesSymmetric, MatchesNotTransitive, MatchesSame, SameReflexive, SameSymmetric, SameTransitive};
 
 // A bank answers as its left kind where that serves the number, and as its right one elsewhere; so banks of matching kinds match,
 // and banks of kinds that mean the same mean the same. Two CRCs match whatever their engines carry, and mean the same if these carry
@@ -14,12 +14,13 @@ pub fn kinds_compare() -> u8
     0
 }
 
-// To mean the same is an equivalence, and implies to match; to match is reflexive and symmetric, and holds as well of a kind that
-// means the same as one that matches. It is not transitive: a kind that refuses everything matches all that serve its numbers.
+// To mean the same is an equivalence, and implies to match. To match is reflexive and symmetric, and is kept where one of the two
+// gives way to a kind that means the same; it is not transitive, since where one of two refuses nothing is asked.
 pub fn comparing_is_sound() -> u8
     ensures implies { λ _. ⌜ SameMatches ⌝ }
     ensures matches_reflexive { λ _. ⌜ MatchesReflexive ⌝ }
     ensures matches_symmetric { λ _. ⌜ MatchesSymmetric ⌝ }
+    ensures not_transitive { λ _. ⌜ MatchesNotTransitive ⌝ }
     ensures matches_same { λ _. ⌜ MatchesSame ⌝ }
     ensures same_reflexive { λ _. ⌜ SameReflexive ⌝ }
     ensures same_symmetric { λ _. ⌜ SameSymmetric ⌝ }
