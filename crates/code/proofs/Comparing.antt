@@ -1,4 +1,4 @@
--- How kinds compare: lemmas for any kind, and the theorems on banks and on the CRC.
+-- How kinds compare: lemmas for any kind, and the theorems on banks and on kinds over engines.
 -- Assumes nothing.
 use mathlib.Core.Path.{_≡_, refl, sym, ap, subst, fun-ext, _∙_}
 use mathlib.Core.Bool.{Bool, true, false, cond}
@@ -20,7 +20,8 @@ use Rattle.code.specs.Flips.{Bytes}
 use Rattle.code.specs.Model.{Model, asked, describedRules, whole, Matches, MeansTheSame}
 use Rattle.code.specs.Bank.{joined}
 use Rattle.code.specs.CrcModel.{crcModel}
-use Rattle.code.specs.Compared.{JoinedAnswers, JoinedMatches, JoinedMeansTheSame, CrcMatches, CrcMeansTheSame, SameMatches, MatchesReflexive, MatchesSymmetric, MatchesNotTransitive, MatchesSame, SameReflexive, SameSymmetric, SameTransitive}
+use Rattle.code.specs.ParityModel.{parityModel}
+use Rattle.code.specs.Compared.{JoinedAnswers, JoinedMatches, JoinedMeansTheSame, SameOverEngines, CrcMatches, CrcMeansTheSame, ParityMatches, ParityMeansTheSame, SameMatches, MatchesReflexive, MatchesSymmetric, MatchesNotTransitive, MatchesSame, SameReflexive, SameSymmetric, SameTransitive}
 use Rattle.code.proofs.Joined.{sides}
 
 -- ---- the two relations
@@ -136,17 +137,20 @@ pub over-same : {X : Type 0} (build : X → Model) {p q : X} → p ≡ q → Mea
 over-same build {p} {q} e = subst (λ x. MeansTheSame (build p) (build x)) e (same-reflexive (build p))
 
 -- a kind over engines that carry the same generators means the same
-pub carries-same : (build : (ℕ → ℕ → Bool) → Model) (p q : ℕ → ℕ → Bool)
-    → ((h low : ℕ) → p h low ≡ q h low) → MeansTheSame (build p) (build q)
-carries-same build p q e = over-same build (fun-ext (λ h. fun-ext (e h)))
-
--- ---- the CRC
+pub same-over-engines : (build : (ℕ → ℕ → Bool) → Model) → SameOverEngines build
+same-over-engines build p q e = over-same build (fun-ext (λ h. fun-ext (e h)))
 
 pub crc-matches : CrcMatches
 crc-matches p q = values-match (crcModel p) (crcModel q) (λ k. refl) (λ d. refl) (λ d message bytes. refl)
 
 pub crc-means-the-same : CrcMeansTheSame
-crc-means-the-same = carries-same crcModel
+crc-means-the-same = same-over-engines crcModel
+
+pub parity-matches : ParityMatches
+parity-matches p q = values-match (parityModel p) (parityModel q) (λ k. refl) (λ d. refl) (λ d message bytes. refl)
+
+pub parity-means-the-same : ParityMeansTheSame
+parity-means-the-same = same-over-engines parityModel
 
 -- ---- banks
 

@@ -1,4 +1,5 @@
--- How kinds compare by their answers: banks of kinds that match or mean the same, CRCs over two engines, and what the two relations are.
+-- How kinds compare by their answers: banks of kinds that match or mean the same, one kind over two engines,
+-- and what the two relations are.
 -- Assumes nothing.
 use mathlib.Core.Path.{_≡_}
 use mathlib.Core.Bool.{Bool, cond}
@@ -8,6 +9,7 @@ use Rattle.code.specs.declared.description.Description.{Description}
 use Rattle.code.specs.Model.{Model, asked, Matches, MeansTheSame}
 use Rattle.code.specs.Bank.{joined}
 use Rattle.code.specs.CrcModel.{crcModel}
+use Rattle.code.specs.ParityModel.{parityModel}
 
 -- ---- banks
 
@@ -32,15 +34,27 @@ JoinedMatches = (a b c d : Model) → Matches a c → Matches b d → Matches (j
 abbrev pub JoinedMeansTheSame : Type 0
 JoinedMeansTheSame = (a b c d : Model) → MeansTheSame a c → MeansTheSame b d → MeansTheSame (joined a b) (joined c d)
 
--- ---- the CRC
+-- ---- kinds over engines
 
--- CRCs match, whatever their engines carry.
+-- A kind matches itself over any two engines, whatever these carry.
+abbrev pub MatchesOverEngines : ((ℕ → ℕ → Bool) → Model) → Type 0
+MatchesOverEngines build = (p q : ℕ → ℕ → Bool) → Matches (build p) (build q)
+
+-- A kind means the same over engines that carry the same generators.
+abbrev pub SameOverEngines : ((ℕ → ℕ → Bool) → Model) → Type 0
+SameOverEngines build = (p q : ℕ → ℕ → Bool) → ((h low : ℕ) → p h low ≡ q h low) → MeansTheSame (build p) (build q)
+
 abbrev pub CrcMatches : Type 0
-CrcMatches = (p q : ℕ → ℕ → Bool) → Matches (crcModel p) (crcModel q)
+CrcMatches = MatchesOverEngines crcModel
 
--- CRCs over engines that carry the same generators mean the same.
 abbrev pub CrcMeansTheSame : Type 0
-CrcMeansTheSame = (p q : ℕ → ℕ → Bool) → ((h low : ℕ) → p h low ≡ q h low) → MeansTheSame (crcModel p) (crcModel q)
+CrcMeansTheSame = SameOverEngines crcModel
+
+abbrev pub ParityMatches : Type 0
+ParityMatches = MatchesOverEngines parityModel
+
+abbrev pub ParityMeansTheSame : Type 0
+ParityMeansTheSame = SameOverEngines parityModel
 
 -- ---- the two relations
 

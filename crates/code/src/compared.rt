@@ -1,15 +1,17 @@
 // How kinds compare by their answers, each fact the contract of a function.
-ghost use Rattle.code.specs.Compared.{JoinedAnswers, JoinedMatches, JoinedMeansTheSame, CrcMatches, CrcMeansTheSame, SameMatches, MatchesReflexive, MatchesSymmetric, MatchesNotTransitive, MatchesSame, SameReflexive, SameSymmetric, SameTransitive};
+ghost use Rattle.code.specs.Compared.{JoinedAnswers, JoinedMatches, JoinedMeansTheSame, CrcMatches, CrcMeansTheSame, ParityMatches, ParityMeansTheSame, SameMatches, MatchesReflexive, MatchesSymmetric, MatchesNotTransitive, MatchesSame, SameReflexive, SameSymmetric, SameTransitive};
 
 // A bank answers as its left kind where that serves the number, and as its right one elsewhere; so banks of matching kinds match,
-// and banks of kinds that mean the same mean the same. Two CRCs match whatever their engines carry, and mean the same if these carry
-// the same generators.
+// and banks of kinds that mean the same mean the same. A kind matches itself over any two engines, and means the same over two that
+// carry the same generators.
 pub fn kinds_compare() -> u8
     ensures bank { λ _. ⌜ JoinedAnswers ⌝ }
     ensures matching { λ _. ⌜ JoinedMatches ⌝ }
     ensures same { λ _. ⌜ JoinedMeansTheSame ⌝ }
     ensures crc { λ _. ⌜ CrcMatches ⌝ }
     ensures crc_same { λ _. ⌜ CrcMeansTheSame ⌝ }
+    ensures parity { λ _. ⌜ ParityMatches ⌝ }
+    ensures parity_same { λ _. ⌜ ParityMeansTheSame ⌝ }
 {
     0
 }
