@@ -72,3 +72,15 @@ kept v (r ∷ rs) e = let k = kept-one v (r .asks) (byRules rs v) (r .otherwise)
 pub kept-append : (rs ss : List Rule) → Kept (rs ++ ss) → Kept rs × Kept ss
 kept-append [] ss k = (tt, k)
 kept-append (r ∷ rs) ss (a, k) = let p = kept-append rs ss k in ((a, p .0), p .1)
+
+-- ---- the value of an answer
+
+value-one : {A : Type 0} (v s : A) (b : Bool) (x : Result A Refusal) (r : Refusal)
+    → (x ≡ Ok s → s ≡ v) → cond b x (Err r) ≡ Ok s → s ≡ v
+value-one v s true x r f e = f e
+value-one v s false x r f e = absurd (let n : _≡_ {A = ℕ} 0 1 = cc in omega arith)
+
+-- an answer that is no refusal is the value
+pub ok-value : {A : Type 0} (v s : A) (rs : List Rule) → byRules rs v ≡ Ok s → s ≡ v
+ok-value v s [] e = cc
+ok-value v s (r ∷ rs) e = value-one v s (r .asks) (byRules rs v) (r .otherwise) (ok-value v s rs) e

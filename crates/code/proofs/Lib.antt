@@ -14,3 +14,5 @@ pub mod Evenness
 pub mod Fitted
 pub mod ParityLaws
 pub mod Texts
+pub mod Joined
+pub mod Comparing

@@ -7,3 +7,4 @@ pub mod CrcModel
 pub mod Admitted
 pub mod ParityModel
 pub mod Catalogue
+pub mod Compared

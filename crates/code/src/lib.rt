@@ -1,7 +1,9 @@
 // Kinds of code: descriptions, sheets, the three kinds, banks, and the laws of the codes.
 pub mod admitted_crc;
+pub mod bank;
 mod bytes;
 pub mod catalogue;
+pub mod compared;
 pub mod crc_asked;
 pub mod crc_kind;
 pub mod description;
