@@ -6,3 +6,5 @@ pub mod Weighted
 pub mod Members
 pub mod Head
 pub mod Samples
+pub mod Far
+pub mod DigitBytes

@@ -4,3 +4,4 @@ pub mod Model
 pub mod Bank
 pub mod Fields
 pub mod CrcModel
+pub mod WeightedModel
