@@ -8,3 +8,5 @@ pub mod Head
 pub mod Samples
 pub mod Far
 pub mod DigitBytes
+pub mod Groups
+pub mod WeightedKeeps
