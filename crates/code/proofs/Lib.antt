@@ -9,4 +9,6 @@ pub mod Samples
 pub mod Far
 pub mod DigitBytes
 pub mod Groups
+pub mod FieldRules
+pub mod WeightedFit
 pub mod WeightedKeeps

@@ -1,134 +1,34 @@
 -- Kind 3 keeps the two laws.
 -- Assumes nothing.
 use mathlib.Core.Path.{_≡_, refl, sym, ap, ap₂, subst, _∙_}
-use mathlib.Core.Bool.{Bool, true, false, _&&_, _||_}
+use mathlib.Core.Bool.{true}
 use mathlib.Core.List.{List, [], _∷_, _++_, map, append-assoc}
-use mathlib.Core.Logic.{_⊎_, inl, inr}
 use Prim.Native.Nat.{ℕ, suc, _+_, _-_, _*_, _/_, _%_, _^_, _≤_, _<_}
 use native.Mathlib.Nat.{lt-of-lt-of-le, div-add-mod, div-le-self, le-div-iff-mul-le, mul-mod-left}
 use native.Mathlib.Omega.{arith}
 use lib.Bits.{bitXor}
-use lib.Dec.{leb, ltb, eqb}
 use lib.Pow.{pow-mono}
 use lib.ListN.{length, length-append}
-use Rattle.std.specs.shelf.Lists.{All}
 use Rattle.std.proofs.shelf.Lists.{map-push}
 use Rattle.std.proofs.shelf.Elements.{all-append, all-push}
-use Rattle.std.proofs.shelf.Tests.{leb-true, ltb-true, eqb-true, and-parts, or-cases}
-use Rattle.answer.proofs.Ruled.{Kept, kept, kept-append}
-use Rattle.poly.specs.Poly.{Divides, generator, terms, rem, string}
+use Rattle.poly.specs.Poly.{Divides, generator, rem, string}
 use Rattle.poly.specs.Period.{NoReturn}
 use Rattle.poly.proofs.Division.{rem-lt}
 use Rattle.poly.proofs.Digits.{chained}
 use Rattle.code.specs.declared.description.Description.{Description}
 use Rattle.code.specs.Flips.{Bytes, flips, Notices, Sure}
 use Rattle.code.specs.Words.{weighted, plain, WeightedSum}
-use Rattle.code.specs.Model.{Model, Admits, Word, Keeps, LawfulSheet, LawfulMessage, describedRules}
-use Rattle.code.specs.Fields.{digits, properLow, lawfulReach, periodAtLeast}
-use Rattle.code.specs.WeightedModel.{groups, tuples, firstSum, secondSum, weightedDegree, secondDegree, weightedFields, weightedReaches, weightedModel}
+use Rattle.code.specs.Model.{Word, Keeps, LawfulSheet}
+use Rattle.code.specs.Fields.{digits}
+use Rattle.code.specs.WeightedModel.{groups, tuples, firstSum, secondSum, weightedModel}
 use Rattle.code.proofs.Members.{weighted-sums, weighted-tuples}
 use Rattle.code.proofs.Weighted.{weighted-sum-notices}
 use Rattle.code.proofs.Far.{far}
 use Rattle.code.proofs.DigitBytes.{length-digits, bytes-digits, string-digits}
+use Rattle.code.proofs.WeightedFit.{Fit, Far-enough, sized, admitted-fit, admitted-far}
 use Rattle.code.proofs.Groups.{groups-lengths, groups-bytes, chained-groups, chained-push}
 
--- ---- what the kept rules say
-
--- bytes of a tuple
-abbrev pub Size : ℕ → Type 0
-Size s = (s ≡ 1) ⊎ ((s ≡ 2) ⊎ (s ≡ 4))
-
-pub record Fit (d : Description) : Type 0 where
-  pub size : Size (d .tuple)
-  pub bits : d .degree ≡ 8 * d .tuple
-  pub least2 : 2 ≤ d .degree2
-  pub most2 : d .degree2 ≤ 16
-  pub below2 : d .degree2 ≤ 8 * d .tuple
-  pub small : d .low < 2 ^ d .degree
-  pub odd : d .low % 2 ≡ 1
-  pub small2 : d .low2 < 2 ^ d .degree2
-  pub odd2 : d .low2 % 2 ≡ 1
-  pub even : terms (d .degree2) (d .low2) % 2 ≡ 0
-
-pub proper : (h low : ℕ) → properLow h low ≡ true → (low < 2 ^ h) × (low % 2 ≡ 1)
-proper h low e =
-    let p = and-parts (ltb low (2 ^ h)) (eqb (low % 2) 1) e in
-    (ltb-true low (2 ^ h) (p .0), eqb-true (low % 2) 1 (p .1))
-
-size : (h s : ℕ) → weightedDegree h ≡ true → s ≡ h / 8 → Size s × (h ≡ 8 * s)
-size h s e t = go (or-cases (eqb h 8 || eqb h 16) (eqb h 32) e)
-  where
-    short : (eqb h 8 ≡ true) ⊎ (eqb h 16 ≡ true) → Size s × (h ≡ 8 * s)
-    short (inl p) = let q = eqb-true h 8 p in (inl (omega arith), omega arith)
-    short (inr p) = let q = eqb-true h 16 p in (inr (inl (omega arith)), omega arith)
-
-    go : ((eqb h 8 || eqb h 16) ≡ true) ⊎ (eqb h 32 ≡ true) → Size s × (h ≡ 8 * s)
-    go (inl p) = short (or-cases (eqb h 8) (eqb h 16) p)
-    go (inr p) = let q = eqb-true h 32 p in (inr (inr (omega arith)), omega arith)
-
-second : (h m : ℕ) → secondDegree h m ≡ true → (2 ≤ m) × (m ≤ 16) × (m ≤ h)
-second h m e =
-    let p = and-parts (leb 2 m && leb m 16) (leb m h) e in
-    let q = and-parts (leb 2 m) (leb m 16) (p .0) in
-    (leb-true 2 m (q .0), leb-true m 16 (q .1), leb-true m h (p .1))
-
-pub fit : (d : Description) → Kept (weightedFields d) → Fit d
-fit d (a, (b, (c, (e, (f, (g, _)))))) =
-    let s = size (d .degree) (d .tuple) a (eqb-true (d .tuple) (d .degree / 8) c) in
-    let m = second (d .degree) (d .degree2) b in
-    let p = proper (d .degree) (d .low) e in
-    let q = proper (d .degree2) (d .low2) f in
-    record {
-      size = s .0;
-      bits = s .1;
-      least2 = m .0;
-      most2 = m .1;
-      below2 = omega arith;
-      small = p .0;
-      odd = p .1;
-      small2 = q .0;
-      odd2 = q .1;
-      even = eqb-true (terms (d .degree2) (d .low2) % 2) 0 g;
-    }
-
-pub record Far-enough (d : Description) (reach : ℕ) : Type 0 where
-  pub whole : reach % d .tuple ≡ 0
-  pub least : 3 * d .tuple ≤ reach
-  pub most : reach ≤ 4096
-  pub first : periodAtLeast (d .degree) (d .low) (reach / d .tuple - 1) ≡ true
-  pub second : periodAtLeast (d .degree2) (d .low2) (8 * d .tuple) ≡ true
-
-pub far-enough : (d : Description) (reach : ℕ) → Kept (weightedReaches d reach) → Far-enough d reach
-far-enough d reach (a, (b, (c, _))) =
-    let s : ℕ = d .tuple in
-    let p = and-parts (eqb (reach % s) 0 && leb (2 * s + s) reach) (leb reach 4096) a in
-    let q = and-parts (eqb (reach % s) 0) (leb (2 * s + s) reach) (p .0) in
-    record {
-      whole = eqb-true (reach % s) 0 (q .0);
-      least = let l = leb-true (2 * s + s) reach (q .1) in omega arith;
-      most = leb-true reach 4096 (p .1);
-      first = b;
-      second = c;
-    }
-
-module _ (d : Description) (reach : ℕ) (admitted : Admits weightedModel d reach) where
-  rules : Kept (describedRules weightedModel d) × Kept (weightedReaches d reach)
-  rules =
-      kept-append (describedRules weightedModel d) (weightedReaches d reach)
-      (kept tt (describedRules weightedModel d ++ weightedReaches d reach) admitted)
-
-  pub admitted-fit : Fit d
-  admitted-fit = fit d (rules .0 .1)
-
-  pub admitted-far : Far-enough d reach
-  admitted-far = far-enough d reach (rules .1)
-
 -- ---- the words
-
-sized : (s : ℕ) → Size s → (1 ≤ s) × (s ≤ 4)
-sized s (inl e) = (omega arith, omega arith)
-sized s (inr (inl e)) = (omega arith, omega arith)
-sized s (inr (inr e)) = (omega arith, omega arith)
 
 -- a message of whole tuples with its two sums after it, for a first generator of 8 * s bits
 sum-word : (s low m low1 : ℕ) (message : List ℕ) → 1 ≤ s → m ≤ 8 * s → low < 2 ^ (8 * s) → low1 < 2 ^ m
