@@ -12,3 +12,4 @@ pub mod Groups
 pub mod FieldRules
 pub mod WeightedFit
 pub mod WeightedKeeps
+pub mod NumberBytes

@@ -13,12 +13,8 @@ use Rattle.poly.specs.Poly.{terms}
 use Rattle.code.specs.declared.description.Description.{Description}
 use Rattle.code.specs.Model.{Admits, describedRules}
 use Rattle.code.specs.Fields.{periodAtLeast}
-use Rattle.code.specs.WeightedModel.{weightedDegree, secondDegree, weightedFields, weightedReaches, weightedModel}
+use Rattle.code.specs.WeightedModel.{Size, weightedDegree, secondDegree, weightedFields, weightedReaches, weightedModel}
 use Rattle.code.proofs.FieldRules.{proper-low, lawful-reach}
-
--- bytes of a tuple
-abbrev pub Size : ℕ → Type 0
-Size s = (s ≡ 1) ⊎ ((s ≡ 2) ⊎ (s ≡ 4))
 
 pub sized : (s : ℕ) → Size s → (1 ≤ s) × (s ≤ 4)
 sized s (inl e) = (omega arith, omega arith)

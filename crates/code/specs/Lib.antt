@@ -5,3 +5,4 @@ pub mod Bank
 pub mod Fields
 pub mod CrcModel
 pub mod WeightedModel
+pub mod Answered

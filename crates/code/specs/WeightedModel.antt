@@ -1,5 +1,7 @@
 -- Kind 3, the weighted sum: two sums of the message's tuples, each modulo a generator.
 -- Assumes nothing.
+use mathlib.Core.Path.{_≡_}
+use mathlib.Core.Logic.{_⊎_}
 use mathlib.Core.Bool.{Bool, true, _&&_, _||_}
 use mathlib.Core.List.{List, [], _∷_, _++_, map}
 use Prim.Native.Nat.{ℕ, zero, suc, _-_, _*_, _/_, _%_}
@@ -15,6 +17,10 @@ use Rattle.code.specs.declared.description.Sheet.{Sheet}
 use Rattle.code.specs.Model.{Model}
 use Rattle.code.specs.Fields.{properLow, periodAtLeast, lawfulReach, digits}
 use Rattle.code.specs.Words.{weighted, plain}
+
+-- The bytes of a tuple.
+abbrev pub Size : ℕ → Type 0
+Size s = (s ≡ 1) ⊎ ((s ≡ 2) ⊎ (s ≡ 4))
 
 -- ---- the sums
 
