@@ -13,3 +13,4 @@ pub mod FieldRules
 pub mod WeightedFit
 pub mod WeightedKeeps
 pub mod NumberBytes
+pub mod SumSteps

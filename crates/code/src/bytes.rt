@@ -20,7 +20,8 @@ pub(crate) fn put(out: &mut [u8], at: usize, count: usize, value: u32)
 // The number in 1, 2 or 4 bytes at a place.
 pub(crate) fn number_at(bytes: &[u8], at: usize, count: usize) -> u32
     requires { ⌜ Size count ⌝ ∗ ⌜ at + count ≤ length (now bytes) ⌝ }
-    ensures { λ r. ⌜ r ≡ string 8 (take count (drop at (now (bytes .entry)))) ⌝ }
+    ensures number { λ r. ⌜ r ≡ string 8 (take count (drop at (now (bytes .entry)))) ⌝ }
+    ensures below { λ r. ⌜ r < 2 ^ (8 * count) ⌝ }
 {
     match count {
         1 => u32::from(bytes[at]),

@@ -4,3 +4,4 @@ pub mod description;
 mod fields;
 pub mod kind;
 pub mod laws;
+mod tuple_sums;
