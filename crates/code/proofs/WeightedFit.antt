@@ -13,7 +13,7 @@ use Rattle.poly.specs.Poly.{terms}
 use Rattle.code.specs.declared.description.Description.{Description}
 use Rattle.code.specs.Model.{Admits, describedRules}
 use Rattle.code.specs.Fields.{periodAtLeast}
-use Rattle.code.specs.WeightedModel.{Size, weightedDegree, secondDegree, weightedFields, weightedReaches, weightedModel}
+use Rattle.code.specs.WeightedModel.{Size, weightedDegree, secondDegree, weightedSizes, weightedReaches, weightedModel}
 use Rattle.code.proofs.FieldRules.{proper-low, lawful-reach}
 
 pub sized : (s : ℕ) → Size s → (1 ≤ s) × (s ≤ 4)
@@ -21,12 +21,17 @@ sized s (inl e) = (omega arith, omega arith)
 sized s (inr (inl e)) = (omega arith, omega arith)
 sized s (inr (inr e)) = (omega arith, omega arith)
 
-pub record Fit (d : Description) : Type 0 where
+-- the degrees and the tuple
+pub record Shape (d : Description) : Type 0 where
   pub size : Size (d .tuple)
   pub bits : d .degree ≡ 8 * d .tuple
   pub least2 : 2 ≤ d .degree2
   pub most2 : d .degree2 ≤ 16
   pub below2 : d .degree2 ≤ 8 * d .tuple
+
+-- the low parts and the terms too
+pub record Fit (d : Description) : Type 0 where
+  pub shape : Shape d
   pub small : d .low < 2 ^ d .degree
   pub odd : d .low % 2 ≡ 1
   pub small2 : d .low2 < 2 ^ d .degree2
@@ -50,18 +55,18 @@ second h m e =
     let q = and-parts (leb 2 m) (leb m 16) (p .0) in
     (leb-true 2 m (q .0), leb-true m 16 (q .1), leb-true m h (p .1))
 
-pub fit : (d : Description) → Kept (weightedFields d) → Fit d
-fit d (a, (b, (c, (e, (f, (g, _)))))) =
+pub shape : (d : Description) → Kept (weightedSizes d) → Shape d
+shape d (a, (b, (c, _))) =
     let s = size (d .degree) (d .tuple) a (eqb-true (d .tuple) (d .degree / 8) c) in
     let m = second (d .degree) (d .degree2) b in
+    record { size = s .0; bits = s .1; least2 = m .0; most2 = m .1; below2 = omega arith }
+
+pub fit : (d : Description) → Kept (weightedModel .fits d) → Fit d
+fit d (a, (b, (c, (e, (f, (g, _)))))) =
     let p = proper-low (d .degree) (d .low) e in
     let q = proper-low (d .degree2) (d .low2) f in
     record {
-      size = s .0;
-      bits = s .1;
-      least2 = m .0;
-      most2 = m .1;
-      below2 = omega arith;
+      shape = shape d (a, (b, (c, tt)));
       small = p .0;
       odd = p .1;
       small2 = q .0;

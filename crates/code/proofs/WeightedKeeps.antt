@@ -61,22 +61,22 @@ sum-word s low m low1 message s1 mh small small1 whole bytes p r ep er =
 
 module _ (d : Description) (f : Fit d) where
   tall : 2 ^ d .degree ≡ 2 ^ (8 * d .tuple)
-  tall = ap (λ n. 2 ^ n) (f .bits)
+  tall = ap (λ n. 2 ^ n) (f .shape .bits)
 
   first-lt : (qs : List ℕ) → firstSum d qs < 2 ^ (8 * d .tuple)
   first-lt qs = subst (λ x. firstSum d qs < x) tall (rem-lt (d .degree) (d .low) (f .small) (weighted qs * 2))
 
   second-lt : (qs : List ℕ) → secondSum d qs < 2 ^ (8 * d .tuple)
   second-lt qs =
-      lt-of-lt-of-le (rem-lt (d .degree2) (d .low2) (f .small2) (bitXor (plain qs) (firstSum d qs))) (pow-mono (f .below2))
+      lt-of-lt-of-le (rem-lt (d .degree2) (d .low2) (f .small2) (bitXor (plain qs) (firstSum d qs))) (pow-mono (f .shape .below2))
 
   word-sum : (w : List ℕ) → Word weightedModel d w → WeightedSum (d .tuple) (d .low) (d .degree2) (d .low2) w
   word-sum w k =
       let qs : List ℕ = tuples (d .tuple) (k .message) in
       subst (WeightedSum (d .tuple) (d .low) (d .degree2) (d .low2)) (sym (k .is-word))
-      (sum-word (d .tuple) (d .low) (d .degree2) (d .low2) (k .message) (sized (d .tuple) (f .size) .0) (f .below2)
+      (sum-word (d .tuple) (d .low) (d .degree2) (d .low2) (k .message) (sized (d .tuple) (f .shape .size) .0) (f .shape .below2)
       (subst (λ x. d .low < x) tall (f .small)) (f .small2) (k .lawful .tuples) (k .lawful .bytes) (firstSum d qs) (secondSum d qs)
-      (ap (λ h. rem h (d .low) (weighted qs * 2)) (f .bits)) refl)
+      (ap (λ h. rem h (d .low) (weighted qs * 2)) (f .shape .bits)) refl)
 
   check-long : (message : List ℕ) → length (weightedModel .check d message) ≡ 2 * d .tuple
   check-long message =
@@ -94,8 +94,8 @@ module _ (d : Description) (f : Fit d) where
 
 lawful-sheet : (d : Description) (reach : ℕ) → Fit d → Far-enough d reach → LawfulSheet (weightedModel .sheet d) reach
 lawful-sheet d reach f k =
-    let s = sized (d .tuple) (f .size) in
-    let b = f .bits in
+    let s = sized (d .tuple) (f .shape .size) in
+    let b = f .shape .bits in
     record {
       multiple = k .whole;
       least = let l = k .least in omega arith;
@@ -112,7 +112,7 @@ keeps-apart : (d : Description) (reach : ℕ) → Fit d → Far-enough d reach �
 keeps-apart d reach f k u v bu bv l r wu wv c =
     let s : ℕ = d .tuple in
     let n : ℕ = reach / s - 1 in
-    let s1 = sized s (f .size) in
+    let s1 = sized s (f .shape .size) in
     let q : 3 ≤ reach / s = le-div-iff-mul-le (s1 .0) .1 (omega (arith, k .least)) in
     let q′ : reach / s ≤ reach = div-le-self reach s in
     let e : reach / s ≡ suc n = omega arith in
@@ -120,11 +120,11 @@ keeps-apart d reach f k u v bu bv l r wu wv c =
     let all : reach ≡ s * (reach / s) = omega (arith, div-add-mod reach s) in
     let whole : reach ≡ s * suc n = all ∙ ap (λ x. s * x) e in
     let far1 : NoReturn (8 * s) (d .low) n =
-    subst (λ h. NoReturn h (d .low) n) (f .bits) (far (d .degree) (d .low) 32768 n (k .first) (omega (arith, k .most))) in
+    subst (λ h. NoReturn h (d .low) n) (f .shape .bits) (far (d .degree) (d .low) 32768 n (k .first) (omega (arith, k .most))) in
     let far2 : NoReturn (d .degree2) (d .low2) (8 * s) = far (d .degree2) (d .low2) 32768 (8 * s) (k .second) (omega arith) in
-    weighted-sum-notices s (d .low) (d .degree2) (d .low2) n (f .below2) (subst (λ x. d .low < x) (tall d f) (f .small)) (f .odd) far1
+    weighted-sum-notices s (d .low) (d .degree2) (d .low2) n (f .shape .below2) (subst (λ x. d .low < x) (tall d f) (f .small)) (f .odd) far1
     (f .small2) (f .odd2) far2 (f .even) u v bu bv l (subst (λ x. length u ≤ x) whole r) (word-sum d f u wu) (word-sum d f v wv)
-    (subst (λ h. Sure h 3 true (flips u v)) (f .bits) c)
+    (subst (λ h. Sure h 3 true (flips u v)) (f .shape .bits) c)
 
 pub weighted-keeps : Keeps weightedModel
 weighted-keeps = record {

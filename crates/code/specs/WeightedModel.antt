@@ -51,12 +51,18 @@ weightedDegree h = eqb h 8 || eqb h 16 || eqb h 32
 abbrev pub secondDegree : ℕ → ℕ → Bool
 secondDegree h m = leb 2 m && leb m 16 && leb m h
 
-abbrev pub weightedFields : Description → List Rule
-weightedFields d =
+-- The degrees and the tuple bytes.
+abbrev pub weightedSizes : Description → List Rule
+weightedSizes d =
     rule (weightedDegree (d .degree)) (refusal 12 Kind 3)
     ∷ rule (secondDegree (d .degree) (d .degree2)) (refusal 12 Kind 8)
     ∷ rule (eqb (d .tuple) (d .degree / 8)) (refusal 12 Kind 11)
-    ∷ rule (properLow (d .degree) (d .low)) (refusal 13 Kind 4)
+    ∷ []
+
+-- The low parts, and the terms of the second generator.
+abbrev pub weightedLows : Description → List Rule
+weightedLows d =
+    rule (properLow (d .degree) (d .low)) (refusal 13 Kind 4)
     ∷ rule (properLow (d .degree2) (d .low2)) (refusal 13 Kind 9)
     ∷ rule (eqb (terms (d .degree2) (d .low2) % 2) 0) (refusal 14 Kind 9)
     ∷ []
@@ -72,7 +78,7 @@ weightedReaches d reach =
 abbrev pub weightedModel : Model
 weightedModel = record {
   serves = λ k. eqb k 3;
-  fits = weightedFields;
+  fits = λ d. weightedSizes d ++ weightedLows d;
   reaches = weightedReaches;
   sheet = λ d. record { check = 2 * d .tuple; tuple = d .tuple; burst = d .degree; few = 3; odd = true };
   check = λ d message.

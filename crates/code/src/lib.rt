@@ -5,3 +5,4 @@ mod fields;
 pub mod kind;
 pub mod laws;
 mod tuple_sums;
+pub mod weighted_kind;
