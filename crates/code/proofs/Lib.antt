@@ -14,3 +14,5 @@ pub mod WeightedFit
 pub mod WeightedKeeps
 pub mod NumberBytes
 pub mod SumSteps
+pub mod Asking
+pub mod WeightedCheck

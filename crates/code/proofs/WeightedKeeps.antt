@@ -78,7 +78,7 @@ module _ (d : Description) (f : Fit d) where
       (subst (λ x. d .low < x) tall (f .small)) (f .small2) (k .lawful .tuples) (k .lawful .bytes) (firstSum d qs) (secondSum d qs)
       (ap (λ h. rem h (d .low) (weighted qs * 2)) (f .shape .bits)) refl)
 
-  check-long : (message : List ℕ) → length (weightedModel .check d message) ≡ 2 * d .tuple
+  pub check-long : (message : List ℕ) → length (weightedModel .check d message) ≡ 2 * d .tuple
   check-long message =
       let qs : List ℕ = tuples (d .tuple) message in
       length-append (digits (d .tuple) (firstSum d qs)) (digits (d .tuple) (secondSum d qs))

@@ -6,3 +6,4 @@ pub mod Fields
 pub mod CrcModel
 pub mod WeightedModel
 pub mod Answered
+pub mod Described
