@@ -121,12 +121,7 @@ pub impl Kind for WeightedSum as WeightedSumKind {
         })
     }
 
-    fn check(
-        &mut self,
-        d: Description,
-        message: &[u8],
-        out: &mut [u8],
-    ) -> Result<usize, Fault> {
+    fn check(&mut self, d: Description, message: &[u8], out: &mut [u8]) -> Result<usize, Fault> {
         let g = generators_of(d)?;
         let tuple = u16::from(d.tuple);
         fitting(message, tuple, 2 * tuple, out.len())?;
