@@ -26,30 +26,11 @@ use Rattle.code.specs.Fields.{properLow, periodAtLeast, lawfulReach, digits}
 use Rattle.code.specs.CrcModel.{checkBytes, crcDegree, crcReaches, evenTerms, crcModel}
 use Rattle.code.proofs.DigitBytes.{length-digits, bytes-digits, string-digits}
 use Rattle.code.proofs.Far.{far}
+use Rattle.code.proofs.FieldRules.{proper-low, lawful-reach}
 use Rattle.code.proofs.Members.{crc-words}
 use Rattle.code.proofs.Words.{crc-notices, crc-even-notices}
 
 -- ---- what kept rules say
-
-pub proper : (h low : ℕ) → properLow h low ≡ true → (low < 2 ^ h) × (low % 2 ≡ 1)
-proper h low e =
-    let p = and-parts (ltb low (2 ^ h)) (eqb (low % 2) 1) e in
-    (ltb-true low (2 ^ h) (p .0), eqb-true (low % 2) 1 (p .1))
-
-pub record Reached (tuple check reach : ℕ) : Type 0 where
-  pub multiple : reach % tuple ≡ 0
-  pub least : check + tuple ≤ reach
-  pub most : reach ≤ 4096
-
-pub reached : (tuple check reach : ℕ) → lawfulReach tuple check reach ≡ true → Reached tuple check reach
-reached tuple check reach e =
-    let p = and-parts _ (leb reach 4096) e in
-    let q = and-parts (eqb (reach % tuple) 0) (leb (check + tuple) reach) (p .0) in
-    record {
-      multiple = eqb-true (reach % tuple) 0 (q .0);
-      least = leb-true (check + tuple) reach (q .1);
-      most = leb-true reach 4096 (p .1);
-    }
 
 -- a degree of whole bytes
 pub record Bytewise (h : ℕ) : Type 0 where
@@ -79,14 +60,14 @@ pub record Fit (d : Description) : Type 0 where
 
 pub fit-of : (carries : ℕ → ℕ → Bool) (d : Description) → Kept (describedRules (crcModel carries) d) → Fit d
 fit-of carries d k =
-    let p = proper (d .degree) (d .low) (k .1 .1 .1 .1 .1 .0) in
+    let p = proper-low (d .degree) (d .low) (k .1 .1 .1 .1 .1 .0) in
     record { degree = bytewise (d .degree) (k .1 .0); small = p .0; constant = p .1 }
 
 -- the period that is asked for
 pub far-of : (d : Description) (reach : ℕ) → Kept (crcReaches d reach) → NoReturn (d .degree) (d .low) (8 * reach)
 far-of d reach k =
-    let r = reached 1 (checkBytes (d .degree)) reach (k .0) in
-    far (d .degree) (d .low) (8 * reach) (omega (arith, r .most)) (k .1 .0)
+    let r = lawful-reach 1 (checkBytes (d .degree)) reach (k .0) in
+    far (d .degree) (d .low) 32768 (8 * reach) (k .1 .0) (omega (arith, r .2))
 
 -- ---- the laws
 
@@ -119,8 +100,8 @@ module _ (carries : ℕ → ℕ → Bool) (d : Description) (reach : ℕ) (admit
   fit : Fit d
   fit = fit-of carries d (rules .0)
 
-  lawful : Reached 1 (checkBytes (d .degree)) reach
-  lawful = reached 1 (checkBytes (d .degree)) reach (rules .1 .0)
+  lawful : (reach % 1 ≡ 0) × (checkBytes (d .degree) + 1 ≤ reach) × (reach ≤ 4096)
+  lawful = lawful-reach 1 (checkBytes (d .degree)) reach (rules .1 .0)
 
 pub crc-keeps : (carries : ℕ → ℕ → Bool) → Keeps (crcModel carries)
 crc-keeps carries = record {
@@ -128,9 +109,9 @@ crc-keeps carries = record {
       let f = fit carries d reach a in
       let r = lawful carries d reach a in
       record {
-        multiple = r .multiple;
-        least = r .least;
-        most = r .most;
+        multiple = r .0;
+        least = r .1;
+        most = r .2;
         some-tuple = omega arith;
         some-burst = omega (arith, f .degree .least);
         some-few = some-few (evenTerms d);

@@ -1,44 +1,41 @@
--- A period that is at least n, as admission tests it: no return below n.
+-- A period that was looked for and is long enough: no power of X below it leaves 1.
 -- Assumes nothing.
-use mathlib.Core.Path.{_≡_, refl, sym, ap, _∙_, subst}
+use mathlib.Core.Path.{_≡_, refl, subst}
 use mathlib.Core.Bool.{Bool, true, false, cond}
-use mathlib.Core.Logic.{_⊎_, inl, inr}
 use Prim.Native.Nat.{ℕ, zero, suc, _+_, _^_, _≤_, _<_}
+use native.Mathlib.Numerals.{add-one}
 use native.Mathlib.Omega.{arith}
-use lib.Dec.{eqb, leb}
+use lib.Dec.{eqb}
 use Rattle.std.specs.declared.option.Option.{Option}
 use Rattle.std.specs.declared.option.Option.the-variants.{Some, None}
-use Rattle.std.proofs.shelf.Tests.{cases-eq, cases-bool, eqb-false, eq-eqb, leb-true}
+use Rattle.std.proofs.shelf.Tests.{leb-true, eqb-false}
 use Rattle.poly.specs.Poly.{rem}
-use Rattle.poly.specs.Period.{Returns, NoReturn, firstReturn}
-use Rattle.code.specs.Fields.{atLeast, periodAtLeast}
+use Rattle.poly.specs.Period.{NoReturn, firstReturn}
+use Rattle.poly.proofs.Walks.{none-none, none-more}
+use Rattle.code.specs.Fields.{atLeast}
 
--- what the search up to n found: no return before it, or none at all
-abbrev Found : ℕ → ℕ → ℕ → Option ℕ → Type 0
-Found h low n (Some p) = (p ≤ n) × NoReturn h low p
-Found h low n None = NoReturn h low (n + 1)
+-- nothing returned before what a search up to n found, or up to n
+abbrev Before : ℕ → ℕ → ℕ → Option ℕ → Type 0
+Before h low n (Some i) = NoReturn h low i
+Before h low n None = NoReturn h low (n + 1)
 
-more : (h low n : ℕ) → NoReturn h low (n + 1) → (b : Bool) → eqb (rem h low (2 ^ suc n)) 1 ≡ b → Found h low (suc n) (cond b (Some (suc n)) None)
-more h low n f true e = (omega arith, λ j l m. f j l (omega arith))
-more h low n f false e =
-    λ j l m r. elim (cases-eq j (suc n)) [
-      | inl same ↦ eqb-false (rem h low (2 ^ suc n)) 1 e (subst (Returns h low) same r)
-      | inr other ↦ f j l (omega arith) r
-    ]
-
-next : (h low n : ℕ) (o : Option ℕ) → Found h low n o
-    → Found h low (suc n) (elim o [ Some i ↦ Some i | None ↦ cond (eqb (rem h low (2 ^ suc n)) 1) (Some (suc n)) None ])
-next h low n (Some p) (l, f) = (omega arith, f)
-next h low n None f = more h low n f (eqb (rem h low (2 ^ suc n)) 1) refl
-
-found : (h low n : ℕ) → Found h low n (firstReturn h low n)
+first-before : (h low n : ℕ) → Before h low n (firstReturn h low n)
 unfolding firstReturn
-found h low zero = λ j l m r. omega arith
-found h low (suc n) = next h low n (firstReturn h low n) (found h low n)
+first-before h low zero = none-none h low
+first-before h low (suc n) = go (firstReturn h low n) (first-before h low n)
+  where
+    here : (b : Bool) → eqb (rem h low (2 ^ suc n)) 1 ≡ b → NoReturn h low (suc n) → Before h low (suc n) (cond b (Some (suc n)) None)
+    here true e f = f
+    here false e f = none-more h low (suc n) f (eqb-false (rem h low (2 ^ suc n)) 1 e)
 
-long-enough : (h low n need : ℕ) (o : Option ℕ) → Found h low n o → need ≤ n + 1 → atLeast o need ≡ true → NoReturn h low need
-long-enough h low n need (Some p) (l, f) k e j a b = let q = leb-true need p e in f j a (omega arith)
-long-enough h low n need None f k e j a b = f j a (omega arith)
+    go : (o : Option ℕ) → Before h low n o
+        → Before h low (suc n) (elim o [ Some i ↦ Some i | None ↦ cond (eqb (rem h low (2 ^ suc n)) 1) (Some (suc n)) None ])
+    go (Some i) f = f
+    go None f = here (eqb (rem h low (2 ^ suc n)) 1) refl (subst (NoReturn h low) (add-one n) f)
 
-pub far : (h low need : ℕ) → need ≤ 32769 → periodAtLeast h low need ≡ true → NoReturn h low need
-far h low need k e = long-enough h low 32768 need (firstReturn h low 32768) (found h low 32768) k e
+pub far : (h low limit n : ℕ) → atLeast (firstReturn h low limit) n ≡ true → n ≤ limit + 1 → NoReturn h low n
+far h low limit n = go (firstReturn h low limit) (first-before h low limit)
+  where
+    go : (o : Option ℕ) → Before h low limit o → atLeast o n ≡ true → n ≤ limit + 1 → NoReturn h low n
+    go (Some i) f e l j one below = f j one (omega (arith, leb-true n i e))
+    go None f e l j one below = f j one (omega arith)

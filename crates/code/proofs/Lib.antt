@@ -16,3 +16,10 @@ pub mod ParityLaws
 pub mod Texts
 pub mod Joined
 pub mod Comparing
+pub mod Groups
+pub mod FieldRules
+pub mod WeightedFit
+pub mod WeightedKeeps
+pub mod NumberBytes
+pub mod SumSteps
+pub mod WeightedCheck

@@ -31,7 +31,8 @@ use Rattle.code.specs.Fields.{digits}
 use Rattle.code.specs.CrcModel.{checkBytes, crcReaches}
 use Rattle.code.specs.ParityModel.{parityDegree, parityAsks, evenBit, parityModel}
 use Rattle.code.proofs.DigitBytes.{length-digits, bytes-digits, string-digits}
-use Rattle.code.proofs.CrcLaws.{proper, Reached, reached, far-of}
+use Rattle.code.proofs.CrcLaws.{far-of}
+use Rattle.code.proofs.FieldRules.{proper-low, lawful-reach}
 use Rattle.code.proofs.Members.{crc-parity-words}
 use Rattle.code.proofs.Words.{crc-parity-notices}
 
@@ -60,7 +61,7 @@ pub record Fit (d : Description) : Type 0 where
 
 pub fit-of : (d : Description) → Kept (parityAsks d) → Fit d
 fit-of d k =
-    let p = proper (d .degree) (d .low) (k .1 .1 .1 .1 .1 .0) in
+    let p = proper-low (d .degree) (d .low) (k .1 .1 .1 .1 .1 .0) in
     record {
       degree = bitwise (d .degree) (k .1 .0);
       small = p .0;
@@ -126,8 +127,8 @@ module _ (carries : ℕ → ℕ → Bool) (d : Description) (reach : ℕ) (admit
   fit : Fit d
   fit = fit-of d (kept-append (parityAsks d) (rule (carries (d .degree) (d .low)) (refusal 15 Engine 4) ∷ []) (rules .0) .0)
 
-  lawful : Reached 1 (checkBytes (d .degree)) reach
-  lawful = reached 1 (checkBytes (d .degree)) reach (rules .1 .0)
+  lawful : (reach % 1 ≡ 0) × (checkBytes (d .degree) + 1 ≤ reach) × (reach ≤ 4096)
+  lawful = lawful-reach 1 (checkBytes (d .degree)) reach (rules .1 .0)
 
 less : (h low n : ℕ) → NoReturn h low n → NoReturn h low (n - 1)
 less h low n f j l m = f j l (omega arith)
@@ -138,9 +139,9 @@ parity-keeps carries = record {
       let f = fit carries d reach a in
       let r = lawful carries d reach a in
       record {
-        multiple = r .multiple;
-        least = r .least;
-        most = r .most;
+        multiple = r .0;
+        least = r .1;
+        most = r .2;
         some-tuple = omega arith;
         some-burst = omega arith;
         some-few = omega arith;

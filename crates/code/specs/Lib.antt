@@ -8,3 +8,6 @@ pub mod Admitted
 pub mod ParityModel
 pub mod Catalogue
 pub mod Compared
+pub mod WeightedModel
+pub mod Answered
+pub mod Described

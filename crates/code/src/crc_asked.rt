@@ -13,7 +13,7 @@ use crate::crc_kind::crc_reaches;
 use crate::description::Description;
 use crate::description::Sheet;
 use crate::fields::even_terms;
-use crate::fields::is_whole;
+use crate::fields::fitting;
 use crate::kind::Kind;
 use answer::fault::Fault;
 use engine::engine::Engine;
@@ -61,15 +61,11 @@ pub impl<E: Engine> Kind for Crc<E> as CrcKind {
 
     fn check(&mut self, d: Description, message: &[u8], out: &mut [u8]) -> Result<usize, Fault> {
         self.fit(d)?;
-        if !is_whole(message, 1) {
-            return Err(Fault::Message(message.len()));
-        }
-        let count = usize::from(check_bytes(d.degree));
-        if out.len() < count {
-            return Err(Fault::Output(out.len()));
-        }
+        let count = check_bytes(d.degree);
+        fitting(message, 1, count, out.len())?;
         self.engine.feed_all(message);
-        put(out, 0, count, self.engine.value());
-        Ok(count)
+        let size = usize::from(count);
+        put(out, 0, size, self.engine.value());
+        Ok(size)
     }
 }

@@ -12,3 +12,5 @@ pub mod kind;
 pub mod laws;
 pub mod parity_asked;
 pub mod parity_kind;
+mod tuple_sums;
+pub mod weighted_kind;

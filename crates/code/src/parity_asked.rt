@@ -6,7 +6,7 @@ use crate::crc_kind::check_bytes;
 use crate::crc_kind::crc_reaches;
 use crate::description::Description;
 use crate::description::Sheet;
-use crate::fields::is_whole;
+use crate::fields::fitting;
 use crate::kind::Kind;
 use crate::parity_kind::CrcParity;
 use crate::parity_kind::with_parity;
@@ -38,15 +38,11 @@ pub impl<E: Engine> Kind for CrcParity<E> as CrcParityKind {
 
     fn check(&mut self, d: Description, message: &[u8], out: &mut [u8]) -> Result<usize, Fault> {
         self.fit(d)?;
-        if !is_whole(message, 1) {
-            return Err(Fault::Message(message.len()));
-        }
-        let count = usize::from(check_bytes(d.degree));
-        if out.len() < count {
-            return Err(Fault::Output(out.len()));
-        }
+        let count = check_bytes(d.degree);
+        fitting(message, 1, count, out.len())?;
         self.engine.feed_all(message);
-        put(out, 0, count, with_parity(self.engine.value(), message));
-        Ok(count)
+        let size = usize::from(count);
+        put(out, 0, size, with_parity(self.engine.value(), message));
+        Ok(size)
     }
 }

@@ -97,6 +97,9 @@ pub impl fmt::Display for Spelled as SpelledDisplay {
         let degree2 = d.degree2;
         let low2 = d.low2;
         let tuple = d.tuple;
-        write!(f, "{kind:02X} {degree:02X} {low:08X} {degree2:02X} {low2:04X} {tuple:02X}")
+        write!(
+            f,
+            "{kind:02X} {degree:02X} {low:08X} {degree2:02X} {low2:04X} {tuple:02X}"
+        )
     }
 }

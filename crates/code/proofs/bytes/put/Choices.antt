@@ -1,4 +1,4 @@
--- After i turns the first i bytes are written.
+-- After i turns the first i bytes of the number are there.
 -- Assumes nothing.
 use mathlib.Core.Path.{_≡_}
 use lib.Seq.{paste}

@@ -1,10 +1,10 @@
 -- The sheet of kind 1, where the description is refused.
 -- Assumes nothing.
-use mathlib.Core.Path.{sym, ap}
+use mathlib.Core.Path.{ap}
 use Rattle.std.proofs.shelf.Results.{err-from-errBy}
 use Rattle.answer.specs.Refusal.{refusalOf}
 use Rattle.code.specs.CrcModel.{crcModel}
-use Rattle.code.proofs.Asking.{unfit-sheet}
+use Rattle.code.proofs.Asking.{sheet-refused}
 use Rattle.code.proofs.crc_asked.CrcKind.sheet.Needs as need
 
 pub returns-in-Break-fit : need.returns-in-Break-fit
@@ -13,6 +13,6 @@ returns-in-Break-fit g c =
     let p = err-from-errBy (c .from-residual .result) (c .from-residual .ensures .1) in
     rw (p .1, p .2)
     (record {
-      answer = sym (unfit-sheet m (c .args .d) (refusalOf (c .in-Break-fit .field-0 .0)) (c .in-Break-fit .ensures tt .answer));
+      answer = sheet-refused m (c .args .d) (refusalOf (c .in-Break-fit .field-0 .0)) (c .in-Break-fit .ensures tt .answer);
       same = ap crcModel (c .fit .ensures .carries);
     })

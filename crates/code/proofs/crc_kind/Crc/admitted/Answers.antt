@@ -1,13 +1,14 @@
 -- What kind 1 admits.
 -- Assumes nothing.
 use mathlib.Core.Path.{_≡_, sym, ap, _∙_}
+use Rattle.std.specs.declared.result.Result.the-variants.{Err}
 use Rattle.std.proofs.shelf.Results.{err-from-errBy}
 use Rattle.answer.specs.Refusal.{refusalOf}
 use Rattle.answer.proofs.Ruled.{kept}
 use Rattle.code.specs.Model.{describedRules}
 use Rattle.code.specs.CrcModel.{crcModel, crcReaches}
 use Rattle.code.proofs.CrcLaws.{fit-of, far-of}
-use Rattle.code.proofs.Asking.{unfit-admission, fit-admission}
+use Rattle.code.proofs.Asking.{admit-refused, admit-then}
 use Rattle.code.proofs.crc_kind.Crc.admitted.Needs as need
 
 pub returns-in-Break-fit : need.returns-in-Break-fit
@@ -16,7 +17,7 @@ returns-in-Break-fit g c =
     let p = err-from-errBy (c .from-residual .result) (c .from-residual .ensures .1) in
     rw (p .1, p .2)
     (record {
-      answer = sym (unfit-admission m (c .args .d) (refusalOf (c .in-Break-fit .field-0 .0)) (c .in-Break-fit .ensures tt .answer) (c .args .reach));
+      answer = admit-refused m (c .args .d) (c .args .reach) (refusalOf (c .in-Break-fit .field-0 .0)) (c .in-Break-fit .ensures tt .answer);
       description = tt;
       reach = tt;
       carries = c .fit .ensures .carries;
@@ -28,8 +29,7 @@ returns-in-Break-crc-reaches g c =
     let p = err-from-errBy (c .from-residual-in-Break-crc-reaches .result) (c .from-residual-in-Break-crc-reaches .ensures .1) in
     rw (p .1, p .2)
     (record {
-      answer =
-          sym (fit-admission m (c .args .d) (c .in-Continue-fit .ensures tt .answer) (c .args .reach) ∙ sym (c .in-Break-crc-reaches .ensures tt));
+      answer = admit-then m (c .args .d) (c .args .reach) (Err (refusalOf (c .in-Break-crc-reaches .field-0 .0))) (c .in-Continue-fit .ensures tt .answer) (c .in-Break-crc-reaches .ensures tt);
       description = tt;
       reach = tt;
       carries = c .fit .ensures .carries;

@@ -1,39 +1,53 @@
 -- The check of kind 2: the remainder and the parity bit in bytes, at the start of the output.
 -- Assumes nothing.
-use mathlib.Core.Path.{_≡_, sym, ap, ap₂, _∙_}
-use mathlib.Core.Bool.{true}
+use mathlib.Core.Path.{_≡_, sym, ap, ap₂, subst, _∙_}
 use mathlib.Core.List.{_++_}
 use Prim.Native.Nat.{ℕ, _+_, _*_, _%_}
 use lib.Count.{ones}
 use native.Mathlib.Nat.{zero-add}
-use native.Mathlib.Omega.{arith}
-use lib.Dec.{leb}
 use lib.ListN.{length, drop}
 use Rattle.std.specs.declared.result.Result.{Result}
-use Rattle.std.specs.declared.result.Result.the-variants.{Ok}
-use Rattle.std.proofs.shelf.Tests.{le-leb}
+use Rattle.std.specs.declared.result.Result.the-variants.{Ok, Err}
 use Rattle.std.proofs.shelf.Results.{err-from-errBy}
 use Rattle.answer.specs.Refusal.{Refusal, refusalOf}
 use Rattle.poly.specs.Poly.{polynomial, remainder}
 use Rattle.engine.proofs.Feeding.{fed-message}
-use Rattle.code.specs.Model.{lengthOf, written, whole}
+use Rattle.code.specs.Model.{lengthOf, written}
+use Rattle.code.specs.Answered.{success}
 use Rattle.code.specs.Fields.{digits}
 use Rattle.code.specs.CrcModel.{checkBytes}
 use Rattle.code.specs.ParityModel.{parityModel}
 use Rattle.code.proofs.DigitBytes.{length-digits}
 use Rattle.code.proofs.ParityLaws.{checked, even-bit}
-use Rattle.code.proofs.Asking.{unfit-check, fit-check}
+use Rattle.code.proofs.Asking.{fitRules, check-refused, check-unfit, check-made}
 use Rattle.code.proofs.parity_asked.CrcParityKind.check.Needs as need
 
 pub returns-in-Break-fit : need.returns-in-Break-fit
 returns-in-Break-fit g c =
     let m = parityModel (g .E·Engine .carriesOf (c .args .self .now .engine)) in
     let p = err-from-errBy (c .from-residual .result) (c .from-residual .ensures .1) in
-    let u = unfit-check m (c .args .d) (refusalOf (c .in-Break-fit .field-0 .0)) (c .in-Break-fit .ensures tt .answer) (c .args .message .now) (length (c .args .out .now)) in
+    let u = check-refused m (c .args .d) (c .args .message .now) (length (c .args .out .now)) (refusalOf (c .in-Break-fit .field-0 .0)) (c .in-Break-fit .ensures tt .answer) in
     rw (p .1, p .2)
     (record {
       answer = sym (ap lengthOf u);
       written = sym (ap (λ x. written x (c .args .out .now)) u);
+      same = ap parityModel (c .fit .ensures .carries);
+    })
+
+pub returns-in-Break-fitting : need.returns-in-Break-fitting
+returns-in-Break-fitting g c =
+    let m = parityModel (g .E·Engine .carriesOf (c .args .self .now .engine)) in
+    let p = err-from-errBy (c .from-residual-in-Break-fitting .result) (c .from-residual-in-Break-fitting .ensures .1) in
+    let z = refusalOf (c .in-Break-fitting .field-0 .0) in
+    let message = c .args .message .now in
+    let out = c .args .out .now in
+    let f : Err z ≡ success (fitRules 1 (checkBytes (c .args .d .degree)) message (length out)) =
+    subst (λ i. Err z ≡ success (fitRules 1 i message (length out))) (c .check-bytes-count .ensures) (c .in-Break-fitting .ensures tt) in
+    let u = check-unfit m (c .args .d) message (length out) z (c .in-Continue-fit .ensures tt .answer) f in
+    rw (p .1, p .2)
+    (record {
+      answer = sym (ap lengthOf u);
+      written = sym (ap (λ x. written x out) u);
       same = ap parityModel (c .fit .ensures .carries);
     })
 
@@ -46,10 +60,10 @@ returns g c =
     let out = c .args .out .now in
     let x = c .fit .last .self .engine in
     let set = c .in-Continue-fit .ensures tt in
-    let n : c .from-count .result ≡ checkBytes (d .degree) = c .from-count .ensures ∙ c .check-bytes .ensures in
-    let w : whole 1 message ≡ true = sym (c .is-whole .ensures) ∙ c .if-not-is-whole .left in
-    let r : leb (checkBytes (d .degree)) (length out) ≡ true = le-leb (checkBytes (d .degree)) (length out) (omega arith) in
-    let k = fit-check m d (set .answer) message (length out) w r in
+    let n : c .from-size .result ≡ checkBytes (d .degree) = c .from-size .ensures ∙ c .check-bytes-count .ensures in
+    let f : Ok tt ≡ success (fitRules 1 (checkBytes (d .degree)) message (length out)) =
+    subst (λ i. Ok tt ≡ success (fitRules 1 i message (length out))) (c .check-bytes-count .ensures) (c .in-Continue-fitting .ensures tt) in
+    let k = check-made m d message (length out) (set .answer) f in
     let r₀ : c .value .result ≡ remainder (d .degree) (d .low) message =
     c .value .ensures
     ∙ fed-message (d .degree) (d .low) (e .degreeOf x) (e .lowOf x) (e .registerOf x) (e .registerOf (c .feed-all .last .self)) message
