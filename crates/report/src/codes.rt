@@ -48,7 +48,7 @@ const WIDE: Description = Description {
 pub fn codes(rt: &LibcRuntime) -> io::Result<()> {
     let mut bank = Bank::new(
         Crc::new(TableEngine::new()),
-        Bank::new(CrcParity::new(TableEngine::new()), WeightedSum::new()),
+        Bank::new(CrcParity::new(TableEngine::new()), WeightedSum),
     );
     println!(rt, "\nCodes\n")?;
     for name in &NAMES {
