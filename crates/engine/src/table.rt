@@ -3,6 +3,7 @@ ghost use Prim.Native.Nat.{_^_, _<_, _≤_};
 ghost use Rattle.engine.specs.Tables.{Entries};
 use poly::generator::Generator;
 
+#[repr(C)]
 #[derive(Clone, Copy)]
 pub struct Table {
     pub(crate) generator: Generator,

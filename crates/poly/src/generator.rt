@@ -2,6 +2,7 @@
 ghost use Prim.Native.Nat.{_%_, _^_, _<_, _≤_};
 ghost use mathlib.Core.Path.{_≡_};
 
+#[repr(C)]
 #[derive(Clone, Copy)]
 pub struct Generator {
     pub(crate) degree: u8,
