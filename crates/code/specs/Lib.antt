@@ -11,3 +11,4 @@ pub mod Compared
 pub mod WeightedModel
 pub mod Answered
 pub mod Described
+pub mod Samples

@@ -1,4 +1,5 @@
 // The laws of the codes, each the contract of a function.
+ghost use Rattle.code.specs.Samples.{SamplesRight};
 ghost use Rattle.code.specs.Words.{Crc-notices, Crc-even-notices, CrcParity-notices, WeightedSum-notices, Crc-words, CrcParity-words, Weighted-sums};
 
 // No two words of a CRC by a generator of degree h differ by a burst of at most h bits or by at most two bits, and where the
@@ -19,6 +20,13 @@ pub fn checks_make_words() -> u8
     ensures crc { λ _. ⌜ Crc-words ⌝ }
     ensures parity { λ _. ⌜ CrcParity-words ⌝ }
     ensures weighted { λ _. ⌜ Weighted-sums ⌝ }
+{
+    0
+}
+
+// Small sums by hand: the checks of some messages, and a word that is none though both its sums vanish.
+pub fn samples_right() -> u8
+    ensures { λ _. ⌜ SamplesRight ⌝ }
 {
     0
 }
