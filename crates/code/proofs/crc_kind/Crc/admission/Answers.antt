@@ -9,7 +9,7 @@ use Rattle.code.specs.Model.{describedRules}
 use Rattle.code.specs.CrcModel.{crcModel, crcReaches}
 use Rattle.code.proofs.CrcLaws.{fit-of, far-of}
 use Rattle.code.proofs.Asking.{admit-refused, admit-then}
-use Rattle.code.proofs.crc_kind.Crc.admitted.Needs as need
+use Rattle.code.proofs.crc_kind.Crc.admission.Needs as need
 
 pub returns-in-Break-fit : need.returns-in-Break-fit
 returns-in-Break-fit g c =
