@@ -3,7 +3,7 @@
 use mathlib.Core.Path.{_≡_, refl, sym, ap, ap₂, _∙_, subst}
 use mathlib.Core.List.{List}
 use mathlib.Core.Logic.{_≢_, _⊎_, inl, inr}
-use Prim.Native.Nat.{ℕ, _+_, _*_, _^_, _<_}
+use Prim.Native.Nat.{ℕ, _+_, _*_, _^_, _<_, _≤_}
 use native.Mathlib.Nat.{one-mul, mul-assoc, mul-one}
 use native.Mathlib.Omega.{arith}
 use lib.ListN.{getD, set, length}
@@ -12,7 +12,7 @@ use lib.Seq.{getD-set-same, getD-set-other}
 use lib.Bits.{bitXor, xor-shifted}
 use Rattle.std.proofs.shelf.Tests.{cases-eq}
 use Rattle.poly.specs.Poly.{clmul, rem, generator}
-use Rattle.poly.proofs.Product.{xor-cancel-r, clmul-zero-l, clmul-xor-l, clmul-shl-l, clmul-one-l, clmul-comm}
+use Rattle.poly.proofs.Product.{xor-cancel-r, clmul-zero-l, clmul-xor-l, clmul-shl-l, clmul-shl-r, clmul-one-l, clmul-comm}
 use Rattle.poly.proofs.Division.{shl-is, rem-xor, rem-zero, rem-mul, rem-shl, rem-small, rem-unique}
 
 module _ (h low : ℕ) (small : low < 2 ^ h) where
@@ -51,6 +51,22 @@ module _ (h low : ℕ) (small : low < 2 ^ h) where
         | inr other ↦ let l : a < 2 ^ k + i = omega arith in rw getD-set-other (before a l)
       ]
 
+  -- a head of a row and an entry of the first row, which has 2^k entries; next is what would come after them
+  pub fill-row : (first k next j i x y : ℕ) → next ≡ rem h low (first * 2 ^ k) → i < 2 ^ k → x ≡ rem h low (clmul j next) → y ≡ rem h low (clmul i first)
+      → bitXor x y ≡ rem h low (clmul (j * 2 ^ k + i) first)
+  fill-row first k next j i x y en li ex ey =
+      ap₂ bitXor (ex ∙ head) ey
+      ∙ sym (rem-xor h low small (clmul (j * 2 ^ k) first) (clmul i first))
+      ∙ ap (rem h low) (sym (clmul-xor-l (j * 2 ^ k) i first))
+      ∙ ap (λ z. rem h low (clmul z first)) (xor-shifted j k i li)
+    where
+      head : rem h low (clmul j next) ≡ rem h low (clmul (j * 2 ^ k) first)
+      head =
+          ap (λ z. rem h low (clmul j z)) en
+          ∙ ap (rem h low) (clmul-comm j (rem h low (first * 2 ^ k)))
+          ∙ sym (rem-mul h low small (first * 2 ^ k) j)
+          ∙ ap (rem h low) (clmul-comm (first * 2 ^ k) j ∙ clmul-shl-r j first k ∙ sym (clmul-shl-l j first k))
+
   -- where the first is X^m
   pub filled : (first m a : ℕ) → first ≡ rem h low (2 ^ m) → rem h low (clmul a first) ≡ rem h low (a * 2 ^ m)
   filled first m a e =
@@ -69,3 +85,30 @@ module _ (h low : ℕ) (small : low < 2 ^ h) where
           ∙ ap (λ x. bitXor x low)
           (ap (λ x. bitXor x low) (sym (one-mul (2 ^ h))) ∙ xor-shifted 1 h low small ∙ ap (λ x. x + low) (one-mul (2 ^ h))
           ∙ sym (clmul-one-l (generator h low)))
+
+-- ---- rows of 32 entries, written column by column
+
+-- a write below the first row leaves that row
+pub spread-first : (e : List ℕ) (i j v c : ℕ) → 1 ≤ j → c < 32 → getD (set e (32 * j + i) v) c 0 ≡ getD e c 0
+spread-first e i j v c one l = let ne : c ≢ 32 * j + i = omega arith in rw getD-set-other
+
+pub spread-write : (e heads : List ℕ) (i j : ℕ) → i < 32 → 1 ≤ j → j < 8 → 32 * j + i < length e
+    → ((c r : ℕ) → 8 * c + r < 8 * i + j → 1 ≤ r → r < 8 → getD e (32 * r + c) 0 ≡ bitXor (getD heads r 0) (getD e c 0))
+    → (c r : ℕ) → 8 * c + r < 8 * i + (j + 1) → 1 ≤ r → r < 8
+    → getD (set e (32 * j + i) (bitXor (getD heads j 0) (getD e i 0))) (32 * r + c) 0
+    ≡ bitXor (getD heads r 0) (getD (set e (32 * j + i) (bitXor (getD heads j 0) (getD e i 0))) c 0)
+spread-write e heads i j li one lj lt before c r lc lr gr =
+    let v = bitXor (getD heads j 0) (getD e i 0) in
+    let stays : getD (set e (32 * j + i) v) c 0 ≡ getD e c 0 = spread-first e i j v c one (omega arith) in
+    elim (cases-eq (32 * r + c) (32 * j + i)) [
+      | inl same ↦
+          let er : r ≡ j = omega arith in
+          let ec : c ≡ i = omega arith in
+          ap (λ z. getD (set e (32 * j + i) v) z 0) same
+          ∙ getD-set-same e (32 * j + i) v 0 lt
+          ∙ ap₂ (λ r c. bitXor (getD heads r 0) (getD e c 0)) (sym er) (sym ec)
+          ∙ ap (bitXor (getD heads r 0)) (sym stays)
+      | inr other ↦
+          let l : 8 * c + r < 8 * i + j = omega arith in
+          rw getD-set-other (before c r l lr gr) ∙ ap (bitXor (getD heads r 0)) (sym stays)
+    ]

@@ -1,49 +1,36 @@
--- The upper half of each power of two from the lower.
+-- Entry a stands in the row a / 32 and the column a % 32.
 -- Assumes nothing.
-use mathlib.Core.Path.{_≡_, sym, ap, _∙_, subst}
-use Prim.Native.Nat.{_+_, _*_, _%_, _^_, _<_}
+use mathlib.Core.Path.{_≡_, sym, ap, _∙_}
+use mathlib.Core.Logic.{_⊎_, inl, inr}
+use Prim.Native.Nat.{ℕ, _+_, _*_, _/_, _%_, _^_, _<_, _≤_}
 use native.Mathlib.Omega.{arith}
-use lib.ListN.{getD, set}
-use lib.Pow.{pow-add, pow-mono}
-use lib.Seq.{getD-set-same}
-use Rattle.std.proofs.shelf.Bits.{one-shl}
+use lib.ListN.{getD}
+use Rattle.std.proofs.shelf.Tests.{cases-eq}
 use Rattle.poly.specs.Poly.{rem, clmul}
-use Rattle.engine.proofs.TableSums.{fill-none, fill-next, fill-write, filled}
+use Rattle.engine.proofs.TableSums.{fill-row, filled}
 use Rattle.engine.proofs.filling.fill.Needs as need
-
-pub loop-k-holds : need.loop-k-holds
-loop-k-holds c =
-    let g = c .args .generator in (
-      c .remainder-power .ensures,
-      λ a l.
-          let z : a ≡ 0 = omega arith in
-          ap (λ x. getD (set (c .args .entries .now) 0 0) x 0) z ∙ getD-set-same (c .args .entries .now) 0 0 0 (omega arith)
-          ∙ fill-none (g .degree) (g .low) (g .ok .2) (c .args .first)
-          ∙ ap (λ x. rem (g .degree) (g .low) (clmul x (c .args .first))) (sym z),
-    )
-
-pub loop-i-again : need.loop-i-again
-loop-i-again c =
-    let g = c .args .generator in
-    let n : 1 * 2 ^ c .loop-k .k % 2 ^ 64 ≡ 2 ^ c .loop-k .k = one-shl (c .loop-k .k) 64 (omega arith) in
-    let m : 2 ^ c .loop-k .k * 2 ≡ 2 ^ (c .loop-k .k + 1) = sym (pow-add 2 (c .loop-k .k) 1) in
-    let b = pow-mono {i = c .loop-k .k + 1} {j = 8} (omega arith) in
-    fill-write (g .degree) (g .low) (g .ok .2) (c .loop-i .entries) (c .args .first) (c .loop-k .k) (c .loop-k .power) (1 * 2 ^ c .loop-k .k % 2 ^ 64)
-    (c .loop-i .i) n (omega arith) (omega arith) (c .loop-k .inv .0) (c .loop-i .inv)
-
-pub loop-k-again : need.loop-k-again
-loop-k-again c =
-    let g = c .args .generator in (
-      fill-next (g .degree) (g .low) (g .ok .2) (c .args .first) (c .loop-k .k) (c .loop-k .power) (c .remainder-power-in-loop-k .result) (c .loop-k .inv .0)
-          (c .remainder-power-in-loop-k .ensures),
-      λ a l.
-          let n : 1 * 2 ^ c .loop-k .k % 2 ^ 64 ≡ 2 ^ c .loop-k .k = one-shl (c .loop-k .k) 64 (omega arith) in
-          let m : 2 ^ (c .loop-k .k + 1) ≡ 2 ^ c .loop-k .k * 2 = pow-add 2 (c .loop-k .k) 1 in
-          c .loop-i .inv a (omega arith),
-    )
 
 pub returns : need.returns
 returns c k e a l =
     let g = c .args .generator in
-    let eight : c .loop-k .k ≡ 8 = omega arith in
-    c .loop-k .inv .1 a (subst (λ n. a < 2 ^ n) (sym eight) l) ∙ filled (g .degree) (g .low) (g .ok .2) (c .args .first) k a e
+    let first = c .args .first in
+    let row = c .double-next .last .entries in
+    let heads = c .double .last .entries in
+    let entry : getD (c .spread .last .entries) a 0 ≡ rem (g .degree) (g .low) (clmul a first) =
+    elim (cases-eq (a / 32) 0) [
+      | inl none ↦
+          let column : a < 32 = omega arith in
+          c .spread .ensures .first a column ∙ c .double-next .ensures .entries a column
+      | inr some ↦
+          let place : a ≡ 32 * (a / 32) + a % 32 = omega arith in
+          let back : a / 32 * 2 ^ 5 + a % 32 ≡ a = omega arith in
+          let column : a % 32 < 32 = omega arith in
+          let least : 1 ≤ a / 32 = omega arith in
+          let most : a / 32 < 8 = omega arith in
+          ap (λ z. getD (c .spread .last .entries) z 0) place
+          ∙ c .spread .ensures .rows (a % 32) (a / 32) column least most
+          ∙ fill-row (g .degree) (g .low) (g .ok .2) first 5 (c .double-next .result) (a / 32) (a % 32) (getD heads (a / 32) 0) (getD row (a % 32) 0)
+          (c .double-next .ensures .next) column (c .double .ensures .entries (a / 32) most) (c .double-next .ensures .entries (a % 32) column)
+          ∙ ap (λ z. rem (g .degree) (g .low) (clmul z first)) back
+    ] in
+    entry ∙ filled (g .degree) (g .low) (g .ok .2) first k a e

@@ -4,7 +4,7 @@ use Prim.Native.Nat.{ℕ, _+_, _*_, _^_, _<_}
 use mathlib.Core.Path.{_≡_}
 use lib.ListN.{getD}
 use Rattle.poly.specs.Poly.{rem, clmul}
-use Rattle.engine.proofs.filling.fill.Given as given
+use Rattle.engine.proofs.filling.double.Given as given
 
 abbrev pub Inv-loop-k : given.InvT-loop-k
 Inv-loop-k l =
