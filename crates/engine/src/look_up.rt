@@ -5,7 +5,7 @@ ghost use lib.Bits.{bitXor};
 ghost use Rattle.engine.specs.Feed.{fed, fedAll};
 ghost use Rattle.engine.specs.Tables.{Entries};
 use crate::stepping::moved_up;
-use crate::stepping::top_byte;
+use crate::stepping::top_index;
 use poly::generator::Generator;
 
 // The register after one byte.
@@ -15,8 +15,8 @@ pub(crate) fn look_up(entries: &[u32; 256], generator: Generator, register: u32,
     ensures below { λ r. ⌜ r < 2 ^ (generator .degree) ⌝ }
 {
     let h = generator.degree();
-    let top = top_byte(h, register, q);
-    moved_up(h, register) ^ entries[usize::from(top)]
+    let top = top_index(h, register, q);
+    moved_up(h, register) ^ entries[top]
 }
 
 // The register after a string.

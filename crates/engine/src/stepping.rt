@@ -46,6 +46,15 @@ pub(crate) fn top_byte(degree: u8, register: u32, q: u8) -> u8
     (register >> (degree - 8)) as u8 ^ q
 }
 
+// The same as the index of an entry. It is not cut to a byte on the way, which every look-up would wait for.
+pub(crate) fn top_index(degree: u8, register: u32, q: u8) -> usize
+    requires { ⌜ 8 ≤ degree ⌝ ∗ ⌜ degree ≤ 32 ⌝ ∗ ⌜ register < 2 ^ degree ⌝ }
+    ensures index { λ r. ⌜ r ≡ bitXor (register / 2 ^ (degree - 8)) q ⌝ }
+    ensures below { λ r. ⌜ r < 256 ⌝ }
+{
+    (register >> (degree - 8)) as usize ^ usize::from(q)
+}
+
 // The register times X^8, cut to the degree.
 pub(crate) fn moved_up(degree: u8, register: u32) -> u32
     requires { ⌜ degree ≤ 32 ⌝ }
