@@ -226,16 +226,37 @@ static uint32_t do_peer_set_singly(size_t n)
     return peer.entries[1];
 }
 
-static uint32_t do_period(size_t n)
+/* Walks of 32,768 steps, each by another generator of degree 32. The processor learns a walk that comes again by heart, and
+ * then foretells its branches, so no walk comes twice unless there are very many rounds. */
+enum { WALKS = 4096, AT_ONCE = 4 };
+
+static uint32_t walked[WALKS];
+static size_t next_walk, next_peer_walk;
+
+static void choose_walks(void)
 {
-    (void)n;
-    return pukhtamo_period(IEEE.degree, IEEE.low).steps;
+    uint32_t x = IEEE.low;
+    for (int k = 0; k < WALKS; x = x * 1664525u + 1013904223u)
+        if (peer_period(x | 1, 1, LIMIT) == 0)
+            walked[k++] = x | 1;
 }
 
-static uint32_t do_peer_period(size_t n)
+static uint32_t do_periods(size_t n)
 {
     (void)n;
-    return peer_period(at_top(IEEE), 1, LIMIT);
+    uint32_t steps = 0;
+    for (int k = 0; k < AT_ONCE; k++)
+        steps += pukhtamo_period(32, walked[next_walk++ % WALKS]).steps;
+    return steps;
+}
+
+static uint32_t do_peer_periods(size_t n)
+{
+    (void)n;
+    uint32_t found = 0;
+    for (int k = 0; k < AT_ONCE; k++)
+        found += peer_period(walked[next_peer_walk++ % WALKS], 1, LIMIT);
+    return found;
 }
 
 /* ---- the table */
@@ -323,10 +344,12 @@ int main(int count, char **words)
     hold(SHORT);
     for (int k = 0; k < 3; k++)
         speed("fast engine, 16/011B", do_fast, "bitwise engine, 16/011B", do_bitwise, sizes[k], k > 0 ? 1.3 : 0);
+    speed("fast engine, 16/011B", do_fast, "C bit by bit", do_peer_bitwise, LONGEST, 0);
     head("ns", "time");
     duration("table set", do_set, "C bit by bit", do_peer_set, 1, 0.1);
     duration("table set", do_set, "C bit by bit, no vectors", do_peer_set_singly, 1, 0);
-    duration("period walk, a step", do_period, "C walk, a step", do_peer_period, LIMIT, 0);
+    choose_walks();
+    duration("period walk, a step", do_periods, "C walk, a step", do_peer_periods, AT_ONCE * LIMIT, 0);
     printf("\n%s\n", missed ? "some goals are not met" : "all goals are met");
     return 0;
 }
