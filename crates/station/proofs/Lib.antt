@@ -5,3 +5,4 @@ pub mod Opens
 pub mod Hands
 pub mod Promised
 pub mod Flipped
+pub mod Booked
