@@ -71,23 +71,23 @@ abbrev pub AllAdmitted : Model → PlainBook → Type 0
 AllAdmitted m b = All (Admitted m) (b .entries)
 
 module _ (m : Model) where
-  stepped : (b : PlainBook) (c : Call) → AllAdmitted m b → AllAdmitted m (step (asked m) b c)
-  stepped b (change (enter n d r)) a =
+  pub step-admitted : (b : PlainBook) (c : Call) → AllAdmitted m b → AllAdmitted m (step (asked m) b c)
+  step-admitted b (change (enter n d r)) a =
       on-ok (Admitted m) (entering (asked m) b n d r) (entered b (entryOf n d r)) b
       (λ p. pushed (Admitted m) (b .entries) (entryOf n d r) a (then-ok (asked m .admission d r) _ tt p .1)) a
-  stepped b (change (narrow n r)) a =
+  step-admitted b (change (narrow n r)) a =
       on-ok (Admitted m) (narrowing (asked m) b n r) (narrowed b n r) b
       (λ p.
       let h = then-ok (entryAt b n) _ tt p in
       kept-narrowed (Admitted m) (b .entries) n r (h .0) a (entry-ok b n (h .0) (h .1)) (need-ok _ _ _ tt (h .2) .1))
       a
-  stepped b (change (retire n)) a =
+  step-admitted b (change (retire n)) a =
       on-ok (Admitted m) (retiring b n) (retired b n) b (λ p. kept-retired (Admitted m) (b .entries) n a) a
-  stepped b (ask q) a = a
+  step-admitted b (ask q) a = a
 
   pub run-admitted : (b : PlainBook) (cs : List Call) → AllAdmitted m b → AllAdmitted m (run (asked m) b cs)
   run-admitted b [] a = a
-  run-admitted b (c ∷ cs) a = run-admitted (step (asked m) b c) cs (stepped b c a)
+  run-admitted b (c ∷ cs) a = run-admitted (step (asked m) b c) cs (step-admitted b c a)
 
   pub book-admitted : (cs : List Call) → AllAdmitted m (bookAfter (asked m) cs)
   book-admitted cs = run-admitted emptyBook cs tt

@@ -6,3 +6,5 @@ pub mod Hands
 pub mod Promised
 pub mod Flipped
 pub mod Booked
+pub mod Ruled
+pub mod EveryCall

@@ -4,3 +4,4 @@ pub mod Frame
 pub mod Calls
 pub mod Promises
 pub mod Books
+pub mod Ruling

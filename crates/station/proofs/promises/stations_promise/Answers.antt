@@ -3,6 +3,7 @@
 use Rattle.station.proofs.Promised.{takes-the-lawful, seals-the-lawful, seals-again, hands-over-unaltered, answers-alike}
 use Rattle.station.proofs.Flipped.{refuses-sure-flips}
 use Rattle.station.proofs.Booked.{book-laws}
+use Rattle.station.proofs.EveryCall.{answers-by-rules, runs-by-rules, held-unrefused}
 use Rattle.station.proofs.promises.stations_promise.Needs as need
 
 pub returns : need.returns
@@ -14,4 +15,7 @@ returns c = record {
   sure = refuses-sure-flips;
   alike = answers-alike;
   book = book-laws;
+  ruled = answers-by-rules;
+  runs = runs-by-rules;
+  clean = held-unrefused;
 }
