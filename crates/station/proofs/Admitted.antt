@@ -6,8 +6,7 @@ use mathlib.Core.List.{List, [], _∷_, _++_}
 use Prim.Native.Nat.{ℕ, _^_, _<_}
 use borrow.Author.Tests.{eqb-true}
 use lib.Dec.{eqb}
-use Rattle.std.specs.declared.option.Option.{Option}
-use Rattle.std.specs.declared.option.Option.the-variants.{Some, None}
+use Rattle.std.specs.declared.option.Option.the-variants.{Some}
 use Rattle.std.specs.declared.result.Result.{Result}
 use Rattle.std.specs.declared.result.Result.the-variants.{Ok, Err}
 use Rattle.std.specs.shelf.Lists.{All}
@@ -16,9 +15,9 @@ use Rattle.answer.proofs.Ruled.{kept, kept-append}
 use Rattle.code.specs.declared.description.Description.{Description}
 use Rattle.code.specs.Model.{Model, Asked, asked, describedRules, Admits}
 use Rattle.station.specs.declared.entry.Entry.{Entry}
-use Rattle.station.specs.Book.{PlainBook, bookOf, emptyBook, entryOf, withReach, heldIn, held, entered, narrowedIn, narrowed, retiredIn, retired}
+use Rattle.station.specs.Book.{PlainBook, emptyBook, entryOf, withReach, heldIn, held, entered, narrowedIn, narrowed, retiredIn, retired}
 use Rattle.station.specs.Frame.{entryAt}
-use Rattle.station.specs.Calls.{Call, change, ask, Change, enter, narrow, retire, step, run, bookAfter, changing, changed, entering, narrowing, retiring, Fits, TypedChange, Typed}
+use Rattle.station.specs.Calls.{Call, change, ask, enter, narrow, retire, step, run, bookAfter, entering, narrowing, retiring, Fits, Typed}
 use Rattle.station.proofs.Inverts.{no-way, some-is, then-ok, need-ok, entry-ok, Fit}
 
 -- ---- any property of entries that entering and narrowing keep

@@ -3,7 +3,7 @@
 use mathlib.Core.Path.{_≡_, refl, sym, ap, subst, _∙_}
 use mathlib.Core.Bool.{Bool, true, false, cond, not}
 use mathlib.Core.List.{List, [], _∷_, _++_}
-use Prim.Native.Nat.{ℕ, zero, suc, _+_, _<_, _≤_}
+use Prim.Native.Nat.{ℕ, suc, _<_, _≤_}
 use native.Mathlib.Omega.{arith}
 use borrow.Author.Tests.{eq-eqb, ne-eqb, eqb-true, ltb-true, both-ways}
 use lib.Dec.{eqb, ltb}
@@ -18,12 +18,12 @@ use Rattle.answer.specs.declared.fault.Layer.the-variants.{Book}
 use Rattle.answer.specs.Refusal.{Refusal, refusal, ifOk}
 use Rattle.answer.specs.Rules.{then, need}
 use Rattle.code.specs.declared.description.Description.{Description}
-use Rattle.code.specs.Model.{Model, Asked, asked}
+use Rattle.code.specs.Model.{Asked, asked}
 use Rattle.station.specs.declared.entry.Entry.{Entry}
 use Rattle.station.specs.Book.{PlainBook, emptyBook, entryOf, withReach, heldIn, held, entered, narrowedIn, narrowed, retiredIn, retired}
 use Rattle.station.specs.Frame.{entryAt}
-use Rattle.station.specs.Calls.{Change, enter, narrow, retire, Ask, Call, change, ask, changing, changed, entering, narrowing, retiring, step, run, bookAfter}
-use Rattle.station.specs.Books.{about, BookLaw, BookLaws}
+use Rattle.station.specs.Calls.{enter, narrow, retire, Call, change, ask, changed, entering, narrowing, retiring, step, run, bookAfter}
+use Rattle.station.specs.Books.{about, BookLaws}
 use Rattle.station.proofs.Inverts.{no-way, some-is, then-ok, need-ok, entry-err}
 use Rattle.station.proofs.Admitted.{Admitted, all-held, book-admitted, held-number}
 

@@ -1,7 +1,7 @@
 -- Every call goes by its rules, and the bank refuses nothing of what the book holds.
 -- Assumes nothing.
 use mathlib.Core.Path.{_≡_, refl, sym, ap, subst, _∙_}
-use mathlib.Core.Bool.{Bool, true, false, _&&_, not}
+use mathlib.Core.Bool.{true, false, _&&_, not}
 use mathlib.Core.List.{List, [], _∷_, _++_}
 use Prim.Native.Nat.{ℕ, zero, suc, _+_, _%_, _^_, _<_, _≤_}
 use native.Mathlib.Omega.{arith}
@@ -71,7 +71,8 @@ module _ (m : Model) (keeps : Keeps m) (b : PlainBook) (ad : AllAdmitted m b) wh
   enters n d r =
       by-asked Done (demand (Admits m d r) (FirstBroken (ofTests (describedRules m d ++ m .reaches d r)))) _ (asked m .admission d r) _
       (λ q. q) (λ z q. (ok-err (asked m .admission d r) tt z q, first-test tt (describedRules m d ++ m .reaches d r) z q))
-      (λ _. by-need Done (demand (¬ IsHeld b n) (exactly 21 Book 1)) _ (not (isSome (held b n))) (refusal 21 Book 1) _ (not-held b n) (is-held b n) refl
+      (λ _. by-need Done (demand (¬ IsHeld b n) (exactly 21 Book 1)) _ (not (isSome (held b n))) (refusal 21 Book 1) _
+      (not-held b n) (is-held b n) refl
       (λ _. subst (GoesBy (demand (length (b .entries) < 16) (exactly 22 Book 1) ∷ []) Done)
       (unit-again (need (ltb (length (b .entries)) 16) (refusal 22 Book 1)))
       (by-need Done (demand (length (b .entries) < 16) (exactly 22 Book 1)) [] (ltb (length (b .entries)) 16) (refusal 22 Book 1) (Ok tt)
@@ -81,7 +82,8 @@ module _ (m : Model) (keeps : Keeps m) (b : PlainBook) (ad : AllAdmitted m b) wh
   narrows : (n r : ℕ) → GoesBy (narrowRules m b n r) Done (narrowing (asked m) b n r)
   narrows n r = by-held Done _ b n _ (λ e h.
       by-need Done (demand (OfEntry b n (λ x. r < x .reach)) (exactly 24 Book 12)) _ (ltb r (e .reach)) (refusal 24 Book 12) _
-      (λ q. of-held b n (λ x. r < x .reach) e h (ltb-true r (e .reach) q)) (λ q k. let u = k e h in let l = ltb-false r (e .reach) q in omega arith) refl
+      (λ q. of-held b n (λ x. r < x .reach) e h (ltb-true r (e .reach) q))
+      (λ q k. let u = k e h in let l = ltb-false r (e .reach) q in omega arith) refl
       (λ _. subst (GoesBy (reach-rule ∷ []) Done) (unit-again (asked m .admission (e .description) r))
       (by-asked Done reach-rule [] (asked m .admission (e .description) r) (Ok tt)
       (λ q. of-held b n (λ x. Admits m (x .description) r) e h q)
@@ -114,7 +116,8 @@ module _ (m : Model) (keeps : Keeps m) (b : PlainBook) (ad : AllAdmitted m b) wh
       (by-need P whole-rule (reach-rule ∷ room-rule ∷ []) (ltb 0 (length s) && eqb (length s % sh .tuple) 0) (refusal 31 Frame (length s)) _
       (λ q.
       let k = both-true (ltb 0 (length s)) (eqb (length s % sh .tuple) 0) q in
-      of-held b n (λ x. (1 ≤ length s) × (length s % sheetOf m x .tuple ≡ 0)) e h (ltb-true 0 (length s) (k .0), eqb-true (length s % sh .tuple) 0 (k .1)))
+      of-held b n (λ x. (1 ≤ length s) × (length s % sheetOf m x .tuple ≡ 0)) e h
+      (ltb-true 0 (length s) (k .0), eqb-true (length s % sh .tuple) 0 (k .1)))
       (λ q k. let u = k e h in both-ways _ q (both-are _ _ (lt-ltb 0 (length s) (u .0)) (eq-eqb (length s % sh .tuple) 0 (u .1))))
       refl
       (λ k31. by-need P reach-rule (room-rule ∷ []) (leb (length s + sh .check) (e .reach)) (refusal 32 Frame 12) _
@@ -145,7 +148,8 @@ module _ (m : Model) (keeps : Keeps m) (b : PlainBook) (ad : AllAdmitted m b) wh
 
   tries : (f : List ℕ) (at byte : ℕ) → Bytes f → byte < 2 ^ 8 → GoesBy (trialRules m b f at byte) Done (trying (asked m) b f at byte)
   tries f at byte bf lb =
-      by-need Done (demand (at < length f) (exactly 48 Frame (length f))) (takeRules m b (set f at byte)) (ltb at (length f)) (refusal 48 Frame (length f)) _
+      by-need Done (demand (at < length f) (exactly 48 Frame (length f))) (takeRules m b (set f at byte)) (ltb at (length f))
+      (refusal 48 Frame (length f)) _
       (ltb-true at (length f)) (λ q k. let l = ltb-false at (length f) q in omega arith) refl
       (λ _.
       forgotten (Handed m b (set f at byte)) (takeRules m b (set f at byte)) (taken (asked m) b (set f at byte))

@@ -1,27 +1,24 @@
 -- Sure flips are refused: those in the head by the head's code, those in the word by the entry's.
 -- Assumes nothing.
 use mathlib.Core.Path.{_≡_, refl, sym, ap, subst, _∙_}
-use mathlib.Core.Bool.{Bool, true, false}
-use mathlib.Core.List.{List, [], _∷_, _++_}
+use mathlib.Core.Bool.{false}
+use mathlib.Core.List.{List, _++_}
 use Prim.Native.Nat.{ℕ, _+_, _-_, _^_, _<_, _≤_, min}
 use native.Mathlib.Nat.{lt-of-le-of-lt}
 use lib.Dec.{lit≤}
 use lib.ListN.{length, take, drop, getD, length-take, length-drop, length-append}
-use Rattle.std.specs.declared.option.Option.the-variants.{Some, None}
 use Rattle.std.specs.declared.result.Result.{Result}
 use Rattle.std.specs.declared.result.Result.the-variants.{Ok, Err}
 use Rattle.std.specs.Results.{isOk}
 use Rattle.std.specs.shelf.Lists.{All}
 use Rattle.answer.specs.Refusal.{Refusal}
 use Rattle.poly.specs.Poly.{string}
-use Rattle.code.specs.declared.description.Description.{Description}
 use Rattle.code.specs.Flips.{Bytes, flips, Sure}
 use Rattle.code.specs.Words.{Crc}
 use Rattle.code.specs.Model.{Model, asked, sheetAt, Admits, Keeps, Matches, Word, LawfulMessage}
-use Rattle.station.specs.declared.entry.Entry.{Entry}
-use Rattle.station.specs.Book.{PlainBook, held}
-use Rattle.station.specs.Frame.{head, frame, taken}
-use Rattle.station.specs.Calls.{Call, bookAfter}
+use Rattle.station.specs.Book.{PlainBook}
+use Rattle.station.specs.Frame.{head, taken}
+use Rattle.station.specs.Calls.{bookAfter}
 use Rattle.station.specs.Promises.{altered, SureFlips, in-head, in-word, LawfulFrame, RefusesSureFlips}
 use Rattle.station.proofs.Inverts.{some-is}
 use Rattle.station.proofs.Admitted.{Admitted, AllAdmitted, Fitting, all-held, book-admitted, book-fits, held-number}
@@ -73,8 +70,10 @@ module _ (a b : Model) (ka : Keeps a) (kb : Keeps b) (match : Matches a b) (x y 
       heads-apart (take 16 f) (take 16 g) (bytes-take 16 f bf) (bytes-take 16 g (bytes-altered f mask bf bm))
       (sixteen ∙ sym (ap length (frame-head b y k g t got)))
       (subst (λ (z : ℕ). z ≤ 64) (sym sixteen) (lit≤ tt))
-      (subst (Crc 16 0x1021) (sym (frame-head a x n f s sent)) (head-word n (sent .entry .description) (length s + length (a .check (sent .entry .description) s))))
-      (subst (Crc 16 0x1021) (sym (frame-head b y k g t got)) (head-word k (got .entry .description) (length t + length (b .check (got .entry .description) t))))
+      (subst (Crc 16 0x1021) (sym (frame-head a x n f s sent))
+      (head-word n (sent .entry .description) (length s + length (a .check (sent .entry .description) s))))
+      (subst (Crc 16 0x1021) (sym (frame-head b y k g t got))
+      (head-word k (got .entry .description) (length t + length (b .check (got .entry .description) t))))
       (subst (Sure 16 3 false) (sym same) sure)
 
   never : (k : ℕ) (t : List ℕ) → LawfulFrame b y k (altered f mask) t → ¬ SureFlips (a .sheet (sent .entry .description)) mask

@@ -1,12 +1,12 @@
 -- The head is a word of CRC-CCITT, and it is known by its bytes. What flips make of a string.
 -- Assumes nothing.
-use mathlib.Core.Path.{_≡_, refl, sym, ap, ap₂, subst, _∙_}
-use mathlib.Core.Bool.{Bool, true, false}
+use mathlib.Core.Path.{_≡_, refl, sym, ap, ap₂, _∙_}
+use mathlib.Core.Bool.{true, false}
 use mathlib.Core.List.{List, [], _∷_, _++_}
-use Prim.Native.Nat.{ℕ, zero, suc, _+_, _-_, _*_, _/_, _%_, _^_, _<_, _≤_}
-use native.Mathlib.Nat.{div-add-mod', le-of-lt}
+use Prim.Native.Nat.{ℕ, zero, suc, _+_, _*_, _/_, _%_, _^_, _<_, _≤_}
+use native.Mathlib.Nat.{div-add-mod'}
 use native.Mathlib.Omega.{arith}
-use lib.Dec.{lit≤, lit<}
+use lib.Dec.{lit<}
 use lib.Bits.{bitXor, xor-lt, xor-assoc, xor-self, xor-zero-l}
 use lib.ListN.{length, take, drop, getD}
 use Rattle.poly.specs.Poly.{string}
@@ -48,7 +48,8 @@ bytes-coded d f =
       f .kind,
       (
         f .degree,
-        bytes-append (digits 4 (d .low)) (d .degree2 ∷ (digits 2 (d .low2) ++ (d .tuple ∷ []))) (bytes-digits 4 (d .low) (f .low)) (f .degree2, code2),
+        bytes-append (digits 4 (d .low)) (d .degree2 ∷ (digits 2 (d .low2) ++ (d .tuple ∷ []))) (bytes-digits 4 (d .low) (f .low))
+            (f .degree2, code2),
       ),
     )
 

@@ -1,27 +1,23 @@
 -- The promises on frames that nothing altered, and on banks that mean the same.
 -- Assumes nothing.
-use mathlib.Core.Path.{_≡_, refl, sym, ap, ap₂, subst, _∙_, fun-ext}
-use mathlib.Core.Bool.{Bool, true, false, _&&_}
-use mathlib.Core.List.{List, [], _∷_, _++_}
-use mathlib.Core.Logic.{_↔_}
-use Prim.Native.Nat.{ℕ, _+_, _%_, _<_, _≤_}
+use mathlib.Core.Path.{_≡_, refl, sym, ap, subst, _∙_, fun-ext}
+use mathlib.Core.Bool.{Bool, _&&_}
+use mathlib.Core.List.{List}
+use Prim.Native.Nat.{ℕ, _+_, _%_, _≤_}
 use native.Mathlib.Omega.{arith}
 use borrow.Author.Tests.{lt-ltb, le-leb, eq-eqb}
 use lib.Dec.{eqb, ltb, leb}
-use lib.ListN.{length, take, drop, getD, length-append}
-use Rattle.std.specs.declared.option.Option.the-variants.{Some, None}
+use lib.ListN.{length, drop, getD, length-append}
 use Rattle.std.specs.declared.result.Result.{Result}
-use Rattle.std.specs.declared.result.Result.the-variants.{Ok, Err}
-use Rattle.answer.specs.declared.fault.Layer.the-variants.{Book, Frame}
+use Rattle.std.specs.declared.result.Result.the-variants.{Ok}
+use Rattle.answer.specs.declared.fault.Layer.the-variants.{Frame}
 use Rattle.answer.specs.Refusal.{Refusal, refusal}
 use Rattle.code.specs.declared.description.Description.{Description}
 use Rattle.code.specs.declared.description.Sheet.{Sheet}
-use Rattle.code.specs.Flips.{Bytes}
 use Rattle.code.specs.Model.{Model, Asked, asked, Admits, Keeps, Matches, MeansTheSame, LawfulMessage}
-use Rattle.station.specs.declared.entry.Entry.{Entry}
-use Rattle.station.specs.Book.{PlainBook, emptyBook, held}
-use Rattle.station.specs.Frame.{coded, frame, entryAt, sealed, taken}
-use Rattle.station.specs.Calls.{Call, answersFrom, bookAfter}
+use Rattle.station.specs.Book.{PlainBook, emptyBook}
+use Rattle.station.specs.Frame.{entryAt, sealed, taken}
+use Rattle.station.specs.Calls.{answersFrom, bookAfter}
 use Rattle.station.specs.Promises.{LawfulFrame, Fate, HandsOverUnaltered, AnswersAlike, SealsAgain, TakesTheLawful, SealsTheLawful}
 use Rattle.station.proofs.Inverts.{some-is, then-is, keeps-on, both-are, entry-is}
 use Rattle.station.proofs.Admitted.{Admitted, AllAdmitted, all-held, book-admitted}
@@ -63,7 +59,8 @@ lawful-sealed m keeps b ad n f s room l fit =
     then-is (entryAt b n) e _ (entry-is b n e (l .is-held))
     ∙ then-is (asked m .sheet d) sh _ (sheet-answer m keeps d (e .reach) a)
     ∙ keeps-on (ltb 0 (length s) && eqb (length s % sh .tuple) 0) (refusal 31 Frame (length s)) _
-    (both-are (ltb 0 (length s)) (eqb (length s % sh .tuple) 0) (lt-ltb 0 (length s) (l .lawful .some)) (eq-eqb (length s % sh .tuple) 0 (l .lawful .tuples)))
+    (both-are (ltb 0 (length s)) (eqb (length s % sh .tuple) 0) (lt-ltb 0 (length s) (l .lawful .some))
+    (eq-eqb (length s % sh .tuple) 0 (l .lawful .tuples)))
     ∙ keeps-on (leb (length s + sh .check) (e .reach)) (refusal 32 Frame 12) _ (le-leb (length s + sh .check) (e .reach) (omega (arith, l .within)))
     ∙ keeps-on (leb (16 + (length s + sh .check)) room) (refusal 33 Frame room) _ (le-leb (16 + (length s + sh .check)) room (omega arith))
     ∙ then-is (asked m .check d s 64) c _ (check-answer m keeps d (e .reach) a s (l .lawful))

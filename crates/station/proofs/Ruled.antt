@@ -2,9 +2,9 @@
 -- Assumes nothing.
 use mathlib.Core.Path.{_≡_, refl, sym, ap, ap₂, subst, _∙_}
 use mathlib.Core.Bool.{Bool, true, false, cond, _&&_}
-use mathlib.Core.List.{List, [], _∷_, _++_}
+use mathlib.Core.List.{List, [], _∷_}
 use mathlib.Core.Logic.{_⊎_, inl, inr}
-use Prim.Native.Nat.{ℕ, zero, suc, _+_, _-_, _*_, _%_, _<_, _≤_, min, suc-le-suc}
+use Prim.Native.Nat.{ℕ, suc, _+_, _-_, _%_, _<_, _≤_, suc-le-suc}
 use native.Mathlib.Nat.{dvd-sub, dvd-of-mod-eq-zero, mod-eq-zero-of-dvd}
 use native.Mathlib.Omega.{arith}
 use borrow.Author.Tests.{lt-ltb, eq-eqb, leb-true, leb-false, ltb-true, eqb-true, eqb-false, both-ways}
@@ -18,7 +18,6 @@ use Rattle.std.specs.Options.{mapped}
 use Rattle.answer.specs.declared.fault.Layer.the-variants.{Book, Frame}
 use Rattle.answer.specs.Refusal.{Refusal, refusal}
 use Rattle.answer.specs.Rules.{Rule, byRules, then, need}
-use Rattle.code.specs.declared.description.Description.{Description}
 use Rattle.code.specs.declared.description.Sheet.{Sheet}
 use Rattle.code.specs.Flips.{Bytes}
 use Rattle.code.specs.Model.{Model, asked, Keeps, LawfulMessage}
@@ -26,7 +25,7 @@ use Rattle.station.specs.declared.entry.Entry.{Entry}
 use Rattle.station.specs.Book.{PlainBook, held}
 use Rattle.station.specs.Frame.{coded, ccitt, pairAt, entryAt, differ, alike, opened, taken}
 use Rattle.station.specs.Promises.{FirstDiffer}
-use Rattle.station.specs.Ruling.{Demand, demand, exactly, atFirst, NoneBroken, FirstBroken, GoesBy, works, refuses, ofTests, IsHeld, OfEntry, sheetOf, wordRules, messageOf, checkOf, takeRules, Handed}
+use Rattle.station.specs.Ruling.{Demand, demand, exactly, atFirst, FirstBroken, GoesBy, works, refuses, ofTests, IsHeld, OfEntry, sheetOf, wordRules, messageOf, checkOf, takeRules, Handed}
 use Rattle.station.proofs.Inverts.{no-way, some-is, then-is, differ-same, differ-none, both-true, both-are}
 use Rattle.station.proofs.Admitted.{Admitted, AllAdmitted, all-held}
 use Rattle.station.proofs.Opens.{bytes-take, bytes-drop}
@@ -153,12 +152,14 @@ opened-by-rules m keeps b n e h ad ten w lt bw =
     (λ q. of-held b n (λ x. ten ≡ coded (x .description)) e h (differ-none ten (coded (e .description)) q))
     (λ i q. (
       (λ k. differ-apart ten (coded (e .description)) i q (k e h)),
-      of-held b n (λ x. atFirst 45 2 ten (coded (x .description)) (refusal 45 Frame (2 + i))) e h (i, differ-first ten (coded (e .description)) lt i q, refl),
+      of-held b n (λ x. atFirst 45 2 ten (coded (x .description)) (refusal 45 Frame (2 + i))) e h
+          (i, differ-first ten (coded (e .description)) lt i q, refl),
     ))
     (λ _.
     subst (GoesBy (word-rule m b n w ∷ reach-rule b n w ∷ check-rule m b n w ∷ []) P)
     (sym (then-is (asked m .sheet (e .description)) sh _ (sheet-answer m keeps (e .description) (e .reach) ad)))
-    (by-need P (word-rule m b n w) (reach-rule b n w ∷ check-rule m b n w ∷ []) (ltb (sh .check) (length w) && eqb (length w % sh .tuple) 0) (refusal 46 Frame 12) _
+    (by-need P (word-rule m b n w) (reach-rule b n w ∷ check-rule m b n w ∷ [])
+    (ltb (sh .check) (length w) && eqb (length w % sh .tuple) 0) (refusal 46 Frame 12) _
     (λ q.
     let k = both-true (ltb (sh .check) (length w)) (eqb (length w % sh .tuple) 0) q in
     of-held b n (λ x. (sheetOf m x .check < length w) × (length w % sheetOf m x .tuple ≡ 0)) e h
@@ -197,7 +198,8 @@ opened-by-rules m keeps b n e h ad ten w lt bw =
         let long : length c ≡ sh .check = keeps .long d (e .reach) ad t lawful .0 in
         let back = drop (length w - sh .check) w in
         let lengths : length back ≡ length c = length-drop (length w - sh .check) w ∙ omega arith in
-        subst (GoesBy (check-rule m b n w ∷ []) P) (sym (then-is (asked m .check d t 64) c _ (check-answers m keeps d (e .reach) ad t some whole-t most)))
+        subst (GoesBy (check-rule m b n w ∷ []) P)
+        (sym (then-is (asked m .check d t 64) c _ (check-answers m keeps d (e .reach) ad t some whole-t most)))
         (by-alike P (check-rule m b n w) [] 47 (16 + (length w - sh .check)) (differ back c) (Ok t)
         (λ q. of-held b n (λ x. checkOf (sheetOf m x) w ≡ m .check (x .description) (messageOf (sheetOf m x) w)) e h (differ-none back c q))
         (λ i q. (
@@ -221,7 +223,8 @@ taken-by-rules m keeps b ad f bf =
     by-need P (demand (16 + pairAt f 12 ≡ length f) (exactly 44 Frame 12)) _ (eqb (16 + pairAt f 12) (length f)) (refusal 44 Frame 12) _
     (eqb-true (16 + pairAt f 12) (length f)) (eqb-false (16 + pairAt f 12) (length f)) refl (λ _.
     by-held P _ b (getD f 1 0) (λ e. opened (asked m) e (take 10 (drop 2 f)) (drop 16 f)) (λ e h.
-    opened-by-rules m keeps b (getD f 1 0) e h (all-held (Admitted m) b (getD f 1 0) e ad h) (take 10 (drop 2 f)) (drop 16 f) (ten size) (bytes-drop 16 f bf))))))
+    opened-by-rules m keeps b (getD f 1 0) e h (all-held (Admitted m) b (getD f 1 0) e ad h)
+    (take 10 (drop 2 f)) (drop 16 f) (ten size) (bytes-drop 16 f bf))))))
   where
     P : List ℕ → Type 0
     P = Handed m b f

@@ -93,7 +93,8 @@ abbrev pub narrowRules : Model → PlainBook → ℕ → ℕ → List Demand
 narrowRules m b n reach =
     demand (IsHeld b n) (exactly 23 Book 1)
     ∷ demand (OfEntry b n (λ e. reach < e .reach)) (exactly 24 Book 12)
-    ∷ demand (OfEntry b n (λ e. Admits m (e .description) reach)) (λ z. OfEntry b n (λ e. FirstBroken (ofTests (m .reaches (e .description) reach)) z))
+    ∷ demand (OfEntry b n (λ e. Admits m (e .description) reach))
+    (λ z. OfEntry b n (λ e. FirstBroken (ofTests (m .reaches (e .description) reach)) z))
     ∷ []
 
 -- Retire: the number is held.
