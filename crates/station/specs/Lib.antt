@@ -3,3 +3,5 @@ pub mod Book
 pub mod Frame
 pub mod Calls
 pub mod Promises
+pub mod Books
+pub mod Ruling
