@@ -3,3 +3,4 @@ pub mod Book
 pub mod Frame
 pub mod Calls
 pub mod Promises
+pub mod Items
