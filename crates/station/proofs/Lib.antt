@@ -1,5 +1,9 @@
 pub mod BigEnd
+pub mod Chains
+pub mod Checked
 pub mod Differs
 pub mod Places
+pub mod Sealed
 pub mod Shift
+pub mod Taken
 pub mod Writing

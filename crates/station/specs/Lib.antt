@@ -4,3 +4,5 @@ pub mod Frame
 pub mod Calls
 pub mod Promises
 pub mod Items
+pub mod Parts
+pub mod Fitting

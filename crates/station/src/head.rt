@@ -1,29 +1,37 @@
 // The head of a frame.
 ghost use mathlib.Core.Path.{_≡_};
-ghost use Rattle.station.specs.Frame.{front, head};
+ghost use Rattle.station.specs.Frame.{coded, front, head};
 use crate::ccitt::ccitt_of;
 use code::description::Description;
+
+// A description in ten bytes.
+pub(crate) fn coded_of(d: Description) -> [u8; 10]
+    ensures { λ r. ⌜ r ≡ coded d ⌝ }
+{
+    let [l0, l1, l2, l3] = d.low.to_be_bytes();
+    let [m0, m1] = d.low2.to_be_bytes();
+    [d.kind, d.degree, l0, l1, l2, l3, d.degree2, m0, m1, d.tuple]
+}
 
 // The head without its check: the layout, the number, the description, the word's length.
 fn front_of(number: u8, d: Description, word: u16) -> [u8; 14]
     ensures { λ r. ⌜ r ≡ front number d word ⌝ }
 {
-    let [l0, l1, l2, l3] = d.low.to_be_bytes();
-    let [m0, m1] = d.low2.to_be_bytes();
+    let [kind, degree, l0, l1, l2, l3, degree2, m0, m1, tuple] = coded_of(d);
     let [w0, w1] = word.to_be_bytes();
     [
         1,
         number,
-        d.kind,
-        d.degree,
+        kind,
+        degree,
         l0,
         l1,
         l2,
         l3,
-        d.degree2,
+        degree2,
         m0,
         m1,
-        d.tuple,
+        tuple,
         w0,
         w1,
     ]

@@ -1,18 +1,13 @@
--- The fields in their bytes.
+-- The layout, the number, the description and the word's length.
 -- Assumes nothing.
 use mathlib.Core.Path.{_≡_, refl, _∙_}
-use Prim.Native.Nat.{_^_, _<_}
-use borrow.Author.Needs.{needs}
 use Rattle.code.specs.Fields.{digits}
-use Rattle.station.proofs.BigEnd.{two, four}
+use Rattle.station.specs.Frame.{coded}
+use Rattle.station.proofs.BigEnd.{two}
 use Rattle.station.proofs.head.front_of.Needs as need
 
 pub returns : need.returns
 returns c =
-    let d = c .args .d in
-    let l : d .low < 2 ^ 32 = search needs in
-    let l2 : d .low2 < 2 ^ 16 = search needs in
-    let a : c .to-be-bytes .result ≡ digits 4 (d .low) = c .to-be-bytes .ensures ∙ four (d .low) l in
-    let b : c .to-be-bytes-2 .result ≡ digits 2 (d .low2) = c .to-be-bytes-2 .ensures ∙ two (d .low2) l2 in
-    let e : c .to-be-bytes-3 .result ≡ digits 2 (c .args .word) = c .to-be-bytes-3 .ensures ∙ two (c .args .word) (c .fits .word .fits) in
-    rw (a, b, e) refl
+    let a : c .coded-of .result ≡ coded (c .args .d) = c .coded-of .ensures in
+    let b : c .to-be-bytes .result ≡ digits 2 (c .args .word) = c .to-be-bytes .ensures ∙ two (c .args .word) (c .fits .word .fits) in
+    rw (a, b) refl
