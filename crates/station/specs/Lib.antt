@@ -5,3 +5,6 @@ pub mod Calls
 pub mod Promises
 pub mod Books
 pub mod Ruling
+pub mod Items
+pub mod Parts
+pub mod Fitting

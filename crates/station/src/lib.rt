@@ -1,3 +1,16 @@
 // Stations: frames, the book, and the calls over them.
+mod book;
+mod ccitt;
+mod checking;
+mod difference;
 pub mod entry;
 pub mod promises;
+mod head;
+mod measure;
+mod parts;
+mod place;
+mod sealing;
+pub mod station;
+pub mod table;
+mod taking;
+pub mod trial;
