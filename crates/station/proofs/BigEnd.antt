@@ -6,20 +6,20 @@ use Prim.Native.Nat.{ℕ, _/_, _%_, _^_, _<_}
 use native.Mathlib.Omega.{arith}
 use lib.Dec.{lit<}
 use Rattle.code.specs.Fields.{digits}
-use Rattle.code.proofs.DigitBytes.{digit-at}
+use Rattle.code.proofs.DigitBytes.{digits-at}
 
 pub two : (x : ℕ) → x < 2 ^ 16 → (x / 256 % 256) ∷ (x % 256) ∷ [] ≡ digits 2 x
 two x l =
-    let a = digit-at 2 x 0 (lit< tt) l in
-    let b = digit-at 2 x 1 (lit< tt) l in
+    let a = digits-at 2 x 0 l (lit< tt) in
+    let b = digits-at 2 x 1 l (lit< tt) in
     let one : x / 1 ≡ x = omega arith in
     cc
 
 pub four : (x : ℕ) → x < 2 ^ 32 → (x / 16777216 % 256) ∷ (x / 65536 % 256) ∷ (x / 256 % 256) ∷ (x % 256) ∷ [] ≡ digits 4 x
 four x l =
-    let a = digit-at 4 x 0 (lit< tt) l in
-    let b = digit-at 4 x 1 (lit< tt) l in
-    let d = digit-at 4 x 2 (lit< tt) l in
-    let e = digit-at 4 x 3 (lit< tt) l in
+    let a = digits-at 4 x 0 l (lit< tt) in
+    let b = digits-at 4 x 1 l (lit< tt) in
+    let d = digits-at 4 x 2 l (lit< tt) in
+    let e = digits-at 4 x 3 l (lit< tt) in
     let one : x / 1 ≡ x = omega arith in
     cc

@@ -63,8 +63,9 @@ bytes-set (x ∷ f) (suc at) b p q = (p .0, bytes-set f at b (p .1) q)
 reach-refused : (m : Model) (d : Description) (p r : ℕ) → Admits m d p → (z : Refusal) → asked m .admission d r ≡ Err z
     → FirstBroken (ofTests (m .reaches d r)) z
 reach-refused m d p r a z q =
-    first-test tt (m .reaches d r) z
-    (sym (then-rules tt tt (describedRules m d) (m .reaches d r) (sym (rules-pass tt (describedRules m d) (admitted-fit m d p a)))) ∙ q)
+    let u : Unit {0} = tt in
+    first-test u (m .reaches d r) z
+    (sym (then-rules u u (describedRules m d) (m .reaches d r) (sym (rules-pass u (describedRules m d) (admitted-fit m d p a)))) ∙ q)
 
 module _ (m : Model) (keeps : Keeps m) (b : PlainBook) (ad : AllAdmitted m b) where
   enters : (n : ℕ) (d : Description) (r : ℕ) → GoesBy (enterRules m b n d r) Done (entering (asked m) b n d r)
