@@ -1,8 +1,10 @@
+pub mod Admission
 pub mod BigEnd
 pub mod Chains
 pub mod Checked
 pub mod Differs
 pub mod Places
+pub mod Runs
 pub mod Sealed
 pub mod Shift
 pub mod Taken

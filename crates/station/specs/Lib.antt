@@ -6,3 +6,4 @@ pub mod Promises
 pub mod Items
 pub mod Parts
 pub mod Fitting
+pub mod Outcomes
