@@ -68,7 +68,7 @@ value v w (r ∷ rs) e = value v w rs (one-value v w (r .asks) (byRules rs v) (r
 
 -- ---- admitted books
 
-both : (p q : Bool) → p && q ≡ true → (p ≡ true) × (q ≡ true)
+pub both : (p q : Bool) → p && q ≡ true → (p ≡ true) × (q ≡ true)
 both true q e = (refl, e)
 both false q e = no-way (cc)
 
@@ -91,7 +91,7 @@ held-admitted a e (h ∷ es) n all p =
     let k = both (isOk (a .admission (h .description) (h .reach))) (allAdmitted a es) all in
     found-in a e es h n (eqb (h .number) n) refl (k .0) (held-admitted a e es n (k .1)) p
 
-by-option : (o : Option Entry) (e : Entry) → _≡_ {A = Result Entry Refusal} (elim o [ Some h ↦ Ok h | None ↦ Err (refusal 23 Book 1) ]) (Ok e) → o ≡ Some e
+pub by-option : (o : Option Entry) (e : Entry) → _≡_ {A = Result Entry Refusal} (elim o [ Some h ↦ Ok h | None ↦ Err (refusal 23 Book 1) ]) (Ok e) → o ≡ Some e
 by-option (Some h) e p = cc
 by-option None e p = no-way (cc)
 

@@ -8,3 +8,4 @@ pub mod Ruling
 pub mod Items
 pub mod Parts
 pub mod Fitting
+pub mod Outcomes

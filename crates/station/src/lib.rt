@@ -1,5 +1,6 @@
 // Stations: frames, the book, and the calls over them.
 mod book;
+pub mod call;
 mod ccitt;
 mod checking;
 mod difference;
@@ -9,6 +10,7 @@ mod head;
 mod measure;
 mod parts;
 mod place;
+pub mod run;
 mod sealing;
 pub mod station;
 pub mod table;
