@@ -19,3 +19,4 @@ pub mod Sealed
 pub mod Shift
 pub mod Taken
 pub mod Writing
+pub mod Pledged

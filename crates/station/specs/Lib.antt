@@ -9,3 +9,4 @@ pub mod Items
 pub mod Parts
 pub mod Fitting
 pub mod Outcomes
+pub mod Pledge

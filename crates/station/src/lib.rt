@@ -5,7 +5,6 @@ mod ccitt;
 mod checking;
 mod difference;
 pub mod entry;
-pub mod promises;
 mod head;
 mod measure;
 mod parts;

@@ -7,6 +7,7 @@ ghost use Rattle.station.specs.Book.{emptyBook};
 ghost use Rattle.station.specs.Calls.{answer, answersFrom, bookAfter, step};
 ghost use Rattle.station.specs.Fitting.{Admitted};
 ghost use Rattle.station.specs.Items.{items};
+ghost use Rattle.station.specs.Pledge.{StationsPromise};
 ghost use Rattle.station.specs.Outcomes.{plainCall, plainCalls, outcomeSeen, outcomesSeen};
 use crate::call::Call;
 use crate::call::Outcome;
@@ -50,8 +51,8 @@ impl<K: Kind> Station<K> {
     }
 }
 
-// Makes every call of a list, one after the other, on a new station over the bank.
-pub fn run<'a, K: Kind + Drop>(
+// One call after the other.
+fn run_all<'a, K: Kind + Drop>(
     heap: Global,
     bank: K,
     calls: &[Call<'a>],
@@ -67,4 +68,20 @@ pub fn run<'a, K: Kind + Drop>(
         outcomes.push(outcome)?;
     }
     Ok(Ran { station, outcomes })
+}
+
+// Makes every call of a list, one after the other, on a new station over the bank: any list, refused calls included.
+// The outcomes are the defined ones, call by call, and the book is the plain book; and so all that is defined is promised:
+// what stations over banks that keep the two laws make of one another's frames.
+pub fn run<'a, K: Kind + Drop>(
+    heap: Global,
+    bank: K,
+    calls: &[Call<'a>],
+) -> Result<Ran<'a, K>, AllocError>
+    ensures outcomes { λ r. ⌜ made r (λ d. outcomesSeen (vec-items (d .outcomes)) ≡ answersFrom (asked (model bank)) emptyBook (plainCalls (now (calls .entry)))) ⌝ }
+    ensures book { λ r. ⌜ made r (λ d. items (d .station .book) ≡ bookAfter (asked (model bank)) (plainCalls (now (calls .entry)))) ⌝ }
+    ensures promises { λ _. ⌜ StationsPromise ⌝ }
+    ensures bank { λ r. ⌜ made r (λ d. model (d .station .bank) ≡ model bank) ⌝ }
+{
+    run_all(heap, bank, calls)
 }

@@ -98,6 +98,8 @@ impl<K: Kind> Station<K> {
 
     // Writes the frame of a message at the start of the output, and answers its length.
     pub fn seal(&mut self, number: u8, message: &[u8], out: &mut [u8]) -> Result<usize, Fault>
+        ensures any { λ r. ⌜ read r ≡ lengthOf (sealedFitting (asked (model (now (self .entry) .bank))) (items (now (self .entry) .book)) number (now (message .entry)) (length (now (out .entry)))) ⌝ }
+        ensures left { λ _. ⌜ now (out .exit) ≡ written (sealedFitting (asked (model (now (self .entry) .bank))) (items (now (self .entry) .book)) number (now (message .entry)) (length (now (out .entry)))) (now (out .entry)) ⌝ }
         ensures answer { λ r. ⌜ (Admitted (asked (model (now (self .entry) .bank))) (items (now (self .entry) .book)) → read r ≡ lengthOf (sealed (asked (model (now (self .entry) .bank))) (items (now (self .entry) .book)) number (now (message .entry)) (length (now (out .entry))))) ⌝ }
         ensures written { λ _. ⌜ (Admitted (asked (model (now (self .entry) .bank))) (items (now (self .entry) .book)) → now (out .exit) ≡ written (sealed (asked (model (now (self .entry) .bank))) (items (now (self .entry) .book)) number (now (message .entry)) (length (now (out .entry)))) (now (out .entry))) ⌝ }
         ensures book { λ _. ⌜ now (self .exit) .book ≡ now (self .entry) .book ⌝ }

@@ -16,6 +16,8 @@ returns g c =
     let fits = λ (h : Admitted (asked (g .K·Kind .model (self .bank))) (items (self .book))). fitting-sealed (g .K·Kind .model (self .bank)) (g .K·Kind·met .keeps (self .bank)) (items (self .book)) h (c .args .number) message
     (bytes-known message (c .typed .message)) (length out) in
     record {
+      any = c .seal-fitting .ensures .answer;
+      left = c .seal-fitting .ensures .written;
       answer = λ h. c .seal-fitting .ensures .answer ∙ ap lengthOf (fits h);
       written = λ h. c .seal-fitting .ensures .written ∙ ap (λ x. written x out) (fits h);
       book = c .seal-fitting .ensures .book;

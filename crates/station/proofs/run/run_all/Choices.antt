@@ -8,7 +8,7 @@ use Rattle.station.specs.Book.{emptyBook}
 use Rattle.station.specs.Calls.{answersFrom, run}
 use Rattle.station.specs.Items.{items}
 use Rattle.station.specs.Outcomes.{plainCalls, outcomesSeen}
-use Rattle.station.proofs.run.run.Given as given
+use Rattle.station.proofs.run.run_all.Given as given
 
 abbrev pub Inv-loop-call : given.InvT-loop-call
 Inv-loop-call g l =
