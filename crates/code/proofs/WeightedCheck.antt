@@ -27,6 +27,10 @@ module _ (d : Description) (qs : List ℕ) (h low : ℕ) (eh : h ≡ d .degree) 
       g ∙ ap (rem m low2) (mul-one (bitXor total x) ∙ ap₂ bitXor e f)
       ∙ ap₂ (λ m low2. rem m low2 (bitXor (plain qs) (firstSum d qs))) em el2
 
+-- a low part that fits, by other names
+pub low-fits : (h low h′ low′ : ℕ) → h′ ≡ h → low′ ≡ low → low < 2 ^ h → low′ < 2 ^ h′
+low-fits h low h′ low′ e f l = subst (λ n. low′ < 2 ^ n) (sym e) (subst (λ x. x < 2 ^ h) (sym f) l)
+
 -- a remainder in a tuple of s bytes
 pub fits-tuple : (h low p x s : ℕ) → low < 2 ^ h → x ≡ rem h low p → 2 ^ h ≤ 2 ^ (8 * s) → x < 2 ^ (8 * s)
 fits-tuple h low p x s small e t = lt-of-lt-of-le (subst (λ y. y < 2 ^ h) (sym e) (rem-lt h low small p)) t

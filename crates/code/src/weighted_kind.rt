@@ -10,7 +10,7 @@ ghost use Rattle.answer.specs.Rules.{rule, byRules};
 ghost use Rattle.code.specs.Answered.{Answers};
 ghost use Rattle.code.specs.Described.{Described};
 ghost use Rattle.code.specs.Model.{describedRules};
-ghost use Rattle.code.specs.WeightedModel.{Size, weightedSizes, weightedReaches, weightedModel};
+ghost use Rattle.code.specs.WeightedModel.{Size, tuples, firstSum, secondSum, weightedSizes, weightedReaches, weightedModel};
 use crate::bytes::put;
 use crate::description::Description;
 use crate::description::Sheet;
@@ -83,16 +83,26 @@ fn reaches(d: Description, g: Generators, reach: u16) -> Result<(), Fault>
     Ok(())
 }
 
-// Writes both sums of a message, a tuple each, at the start of an output.
-fn write_sums(d: Description, g: Generators, message: &[u8], out: &mut [u8])
+// The two check tuples of a message.
+fn check_tuples(d: Description, g: Generators, message: &[u8]) -> (u32, u32)
+    requires { ⌜ Described d g ⌝ ∗ ⌜ Size (d .tuple) ⌝ ∗ ⌜ d .degree ≡ 8 * d .tuple ⌝ ∗ ⌜ length (now message) % d .tuple ≡ 0 ⌝ }
+    ensures first { λ r. ⌜ r .0 ≡ firstSum d (tuples (d .tuple) (now (message .entry))) ⌝ }
+    ensures second { λ r. ⌜ r .1 ≡ secondSum d (tuples (d .tuple) (now (message .entry))) ⌝ }
+{
+    let sums = add_up(g.first, usize::from(d.tuple), message);
+    let first = g.first.remainder(sums.horner, 1);
+    let second = g.second.remainder(sums.total ^ first, 0);
+    (first, second)
+}
+
+// Writes them at the start of an output.
+fn write_check(d: Description, g: Generators, message: &[u8], out: &mut [u8])
     requires { ⌜ Described d g ⌝ ∗ ⌜ Size (d .tuple) ⌝ ∗ ⌜ d .degree ≡ 8 * d .tuple ⌝ ∗ ⌜ d .degree2 ≤ 8 * d .tuple ⌝ }
     requires { ⌜ length (now message) % d .tuple ≡ 0 ⌝ ∗ ⌜ 2 * d .tuple ≤ length (now out) ⌝ }
     ensures { λ _. ⌜ now (out .exit) ≡ weightedModel .check d (now (message .entry)) ++ drop (2 * d .tuple) (now (out .entry)) ⌝ }
 {
+    let (first, second) = check_tuples(d, g, message);
     let tuple = usize::from(d.tuple);
-    let sums = add_up(g.first, tuple, message);
-    let first = g.first.remainder(sums.horner, 1);
-    let second = g.second.remainder(sums.total ^ first, 0);
     put(out, 0, tuple, first);
     put(out, tuple, tuple, second);
 }
@@ -125,7 +135,7 @@ pub impl Kind for WeightedSum as WeightedSumKind {
         let g = generators_of(d)?;
         let tuple = u16::from(d.tuple);
         fitting(message, tuple, 2 * tuple, out.len())?;
-        write_sums(d, g, message, out);
+        write_check(d, g, message, out);
         Ok(2 * usize::from(d.tuple))
     }
 }

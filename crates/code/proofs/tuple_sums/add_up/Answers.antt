@@ -11,12 +11,9 @@ use Rattle.poly.proofs.Division.{rem-lt}
 use Rattle.code.specs.Words.{weighted, plain}
 use Rattle.code.specs.WeightedModel.{groups, tuples}
 use Rattle.code.proofs.WeightedFit.{sized}
+use Rattle.code.proofs.WeightedCheck.{low-fits}
 use Rattle.code.proofs.SumSteps.{tuple-fits, whole-more, plain-more, weighted-more, weighted-none, plain-none}
 use Rattle.code.proofs.tuple_sums.add_up.Needs as need
-
--- the low part and the degree as they were read
-low-fits : (h low h′ low′ : ℕ) → h′ ≡ h → low′ ≡ low → low < 2 ^ h → low′ < 2 ^ h′
-low-fits h low h′ low′ e f l = subst (λ n. low′ < 2 ^ n) (sym e) (subst (λ x. x < 2 ^ h) (sym f) l)
 
 pub loop-at-holds : need.loop-at-holds
 loop-at-holds c =

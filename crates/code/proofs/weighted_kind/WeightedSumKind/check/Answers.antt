@@ -48,6 +48,6 @@ returns c =
     let long : length (weightedModel .check d message) ≡ 2 * d .tuple = check-long d (fit d (kept tt (describedRules weightedModel d) (sym ok) .1)) message in
     record {
       answer = ap {B = Result ℕ Refusal} (λ n. Ok n) (ap (λ n. 2 * n) (c .from .ensures) ∙ sym long) ∙ ap lengthOf (sym e);
-      written = c .write-sums .ensures ∙ ap (λ n. weightedModel .check d message ++ drop n out) (sym long) ∙ ap (λ x. written x out) (sym e);
+      written = c .write-check .ensures ∙ ap (λ n. weightedModel .check d message ++ drop n out) (sym long) ∙ ap (λ x. written x out) (sym e);
       same = refl;
     }
