@@ -65,7 +65,7 @@ fn frame_of<'v>(outcome: Option<&'v Outcome<'_>>) -> &'v [u8] {
 }
 
 // The old site: what it entered and sealed.
-fn old_site(rt: &LibcRuntime, c: Codes, reading: &[u8]) -> Result<(), AnyError> {
+fn old_site<'f>(rt: &LibcRuntime, c: Codes, reading: &'f [u8]) -> Result<(), AnyError> {
     let calls = [
         Call::Enter { number: 5, description: c.crc_16, reach: 64 },
         Call::Enter { number: 7, description: c.hec, reach: 15 },
@@ -93,7 +93,7 @@ fn old_site(rt: &LibcRuntime, c: Codes, reading: &[u8]) -> Result<(), AnyError> 
 }
 
 // The new site: what it makes of the old site's frames.
-fn new_site(rt: &LibcRuntime, c: Codes, reading: &[u8], short: &[u8], longer: &[u8], sums: &[u8]) -> Result<(), AnyError> {
+fn new_site<'f>(rt: &LibcRuntime, c: Codes, reading: &'f [u8], short: &'f [u8], longer: &'f [u8], sums: &'f [u8]) -> Result<(), AnyError> {
     let calls = [
         Call::Enter { number: 5, description: c.long, reach: 511 },
         Call::Enter { number: 7, description: c.hec, reach: 15 },

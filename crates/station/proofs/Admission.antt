@@ -1,13 +1,13 @@
 -- Every call keeps the entries of a book admitted.
 -- Assumes nothing.
-use mathlib.Core.Path.{_≡_, refl, sym, ap, _∙_}
+use mathlib.Core.Path.{_≡_, refl, ap, _∙_}
 use mathlib.Core.Bool.{Bool, true, false, cond, _&&_}
 use mathlib.Core.List.{List, [], _∷_, _++_}
 use Prim.Native.Nat.{ℕ}
 use native.Mathlib.Omega.{arith}
 use lib.Dec.{eqb, ltb}
 use Rattle.std.specs.declared.option.Option.{Option}
-use Rattle.std.specs.declared.option.Option.the-variants.{Some, None}
+use Rattle.std.specs.declared.option.Option.the-variants.{Some}
 use Rattle.std.specs.declared.result.Result.{Result}
 use Rattle.std.specs.declared.result.Result.the-variants.{Ok, Err}
 use Rattle.std.specs.Results.{isOk}
@@ -17,9 +17,9 @@ use Rattle.answer.specs.Rules.{then, need}
 use Rattle.code.specs.declared.description.Description.{Description}
 use Rattle.code.specs.Model.{Asked}
 use Rattle.station.specs.declared.entry.Entry.{Entry}
-use Rattle.station.specs.Book.{PlainBook, bookOf, emptyBook, entryOf, held, heldIn, narrowedIn, retiredIn, withReach}
+use Rattle.station.specs.Book.{PlainBook, bookOf, entryOf, held, heldIn, narrowedIn, retiredIn, withReach}
 use Rattle.station.specs.Frame.{entryAt}
-use Rattle.station.specs.Calls.{Change, enter, narrow, retire, Call, change, ask, entering, narrowing, retiring, step, run}
+use Rattle.station.specs.Calls.{enter, narrow, retire, Call, change, ask, entering, narrowing, retiring, step, run}
 use Rattle.station.specs.Fitting.{allAdmitted, Admitted}
 use Rattle.station.proofs.Sealed.{both, by-option}
 

@@ -3,7 +3,7 @@
 use mathlib.Core.Path.{_≡_, refl, sym, ap, _∙_}
 use mathlib.Core.Bool.{Bool, true, false, cond, _&&_}
 use mathlib.Core.List.{List, [], _∷_, _++_}
-use Prim.Native.Nat.{ℕ, zero, suc, _+_, _%_, _^_, _<_, _≤_}
+use Prim.Native.Nat.{ℕ, suc, _+_, _%_}
 use native.Mathlib.Omega.{arith}
 use borrow.Author.Tests.{eqb-true, eq-eqb, ltb-true, leb-true}
 use mir.Val.{Fits}
@@ -18,7 +18,7 @@ use Rattle.std.specs.Results.{isOk}
 use Rattle.answer.specs.declared.fault.Layer.the-variants.{Book, Frame}
 use Rattle.answer.specs.Refusal.{Refusal, refusal}
 use Rattle.answer.specs.Rules.{Rule, rule, byRules, then, need}
-use Rattle.answer.proofs.Ruled.{Kept, kept, kept-append}
+use Rattle.answer.proofs.Ruled.{kept, kept-append}
 use Rattle.code.specs.declared.description.Description.{Description}
 use Rattle.code.specs.declared.description.Sheet.{Sheet}
 use Rattle.code.specs.Flips.{Bytes}

@@ -1,12 +1,11 @@
 -- Moving the entries after i down by one place.
 -- Assumes nothing.
-use mathlib.Core.Path.{_≡_, refl, sym, ap, _∙_}
+use mathlib.Core.Path.{_≡_, sym, ap, _∙_}
 use mathlib.Core.List.{List, [], _∷_, _++_, append-assoc, append-nil}
 use Prim.Native.Nat.{ℕ, suc, _+_, _-_, _<_, _≤_}
-use native.Mathlib.Numerals.{add-one}
 use native.Mathlib.Omega.{arith}
 use lib.ListN.{length, take, drop, getD, set, length-drop}
-use lib.Seq.{take-take, take-suc-set, take-suc, drop-set-lt, getD-drop, drop-drop}
+use lib.Seq.{take-take, drop-set-lt, getD-drop, drop-drop}
 use Rattle.std.proofs.shelf.Lists.{drop-take, take-more, take-more-set}
 
 module _ {A : Type 0} where

@@ -1,8 +1,8 @@
 -- Taking by the parts of a frame, and trying.
 -- Assumes nothing.
-use mathlib.Core.Path.{_≡_, refl, sym, ap, _∙_}
+use mathlib.Core.Path.{_≡_, sym, ap, _∙_}
 use mathlib.Core.List.{List}
-use Prim.Native.Nat.{ℕ, suc, _+_, _<_}
+use Prim.Native.Nat.{ℕ, _+_, _<_}
 use borrow.Author.Tests.{lt-ltb}
 use lib.Dec.{eqb, leb}
 use lib.ListN.{length, take, drop, getD, set}

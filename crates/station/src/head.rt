@@ -2,6 +2,7 @@
 ghost use mathlib.Core.Path.{_≡_};
 ghost use Rattle.station.specs.Frame.{coded, front, head};
 use crate::ccitt::ccitt_of;
+use crate::layout::MARK;
 use code::description::Description;
 
 // A description in ten bytes.
@@ -20,7 +21,7 @@ fn front_of(number: u8, d: Description, word: u16) -> [u8; 14]
     let [kind, degree, l0, l1, l2, l3, degree2, m0, m1, tuple] = coded_of(d);
     let [w0, w1] = word.to_be_bytes();
     [
-        1,
+        MARK,
         number,
         kind,
         degree,

@@ -6,6 +6,7 @@ mod checking;
 mod difference;
 pub mod entry;
 mod head;
+mod layout;
 mod measure;
 mod parts;
 mod place;

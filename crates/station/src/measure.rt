@@ -10,6 +10,7 @@ ghost use Rattle.answer.specs.Rules.{need};
 ghost use Rattle.station.specs.Frame.{alike, differ, coded};
 use crate::difference::first_difference;
 use crate::head::coded_of;
+use crate::layout::SIZE;
 use answer::fault::Fault;
 use code::description::Description;
 use code::description::Sheet;
@@ -57,7 +58,7 @@ pub(crate) fn within_reach(message: usize, check: u16, reach: u16) -> Result<(),
 pub(crate) fn within_room(message: usize, check: u16, room: usize) -> Result<(), Fault>
     ensures { λ r. ⌜ read r ≡ need (leb (16 + (message + check)) room) (refusal 33 Frame room) ⌝ }
 {
-    if room >= 16 && within(message, check, room - 16) {
+    if room >= SIZE && within(message, check, room - SIZE) {
         Ok(())
     } else {
         Err(Fault::Output(room))

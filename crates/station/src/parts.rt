@@ -5,6 +5,8 @@ ghost use lib.ListN.{length};
 ghost use Rattle.std.specs.Vec.{made};
 ghost use Rattle.station.specs.Parts.{partsSeen, partsOf};
 use crate::ccitt::ccitt_of;
+use crate::layout::MARK;
+use crate::layout::SIZE;
 use answer::fault::Fault;
 
 // What take goes on with: the number, the ten bytes of the description, and the word.
@@ -44,13 +46,13 @@ pub(crate) fn parts_of(frame: &[u8]) -> Result<Parts<'_>, Fault>
     if word.len() == 0 {
         return Err(Fault::ShortFrame(frame.len()));
     }
-    if *layout != 1 {
+    if *layout != MARK {
         return Err(Fault::Layout);
     }
     if u16::from_be_bytes([*c0, *c1]) != ccitt_of(&frame[0..14]) {
         return Err(Fault::HeadCheck(14));
     }
-    if 16 + usize::from(u16::from_be_bytes([*w0, *w1])) != frame.len() {
+    if SIZE + usize::from(u16::from_be_bytes([*w0, *w1])) != frame.len() {
         return Err(Fault::FrameLength);
     }
     Ok(Parts {

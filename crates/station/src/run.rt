@@ -1,5 +1,7 @@
 // One call as a value, and a list of them on a new station.
 ghost use mathlib.Core.Path.{_≡_};
+ghost use Prim.Native.Nat.{_≤_};
+ghost use lib.ListN.{length};
 ghost use Rattle.std.specs.Vec.{made};
 ghost use Rattle.code.specs.Model.{asked};
 ghost use Rattle.std.specs.Of.Vec.{vec-items};
@@ -60,6 +62,8 @@ fn run_all<'a, K: Kind + Drop>(
     ensures outcomes { λ r. ⌜ made r (λ d. outcomesSeen (vec-items (d .outcomes)) ≡ answersFrom (asked (model bank)) emptyBook (plainCalls (now (calls .entry)))) ⌝ }
     ensures book { λ r. ⌜ made r (λ d. items (d .station .book) ≡ bookAfter (asked (model bank)) (plainCalls (now (calls .entry)))) ⌝ }
     ensures bank { λ r. ⌜ made r (λ d. model (d .station .bank) ≡ model bank) ⌝ }
+    ensures admitted { λ r. ⌜ made r (λ d. Admitted (asked (model bank)) (items (d .station .book))) ⌝ }
+    ensures few { λ r. ⌜ made r (λ d. length (items (d .station .book) .entries) ≤ 16) ⌝ }
 {
     let mut station = Station::new(bank);
     let mut outcomes = Vec::new(heap);
@@ -82,6 +86,8 @@ pub fn run<'a, K: Kind + Drop>(
     ensures book { λ r. ⌜ made r (λ d. items (d .station .book) ≡ bookAfter (asked (model bank)) (plainCalls (now (calls .entry)))) ⌝ }
     ensures promises { λ _. ⌜ StationsPromise ⌝ }
     ensures bank { λ r. ⌜ made r (λ d. model (d .station .bank) ≡ model bank) ⌝ }
+    ensures admitted { λ r. ⌜ made r (λ d. Admitted (asked (model bank)) (items (d .station .book))) ⌝ }
+    ensures few { λ r. ⌜ made r (λ d. length (items (d .station .book) .entries) ≤ 16) ⌝ }
 {
     run_all(heap, bank, calls)
 }

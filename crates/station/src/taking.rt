@@ -8,6 +8,7 @@ ghost use Rattle.station.specs.Parts.{messageOf};
 ghost use Rattle.station.specs.Items.{seen};
 use crate::checking::check_of;
 use crate::entry::Entry;
+use crate::layout::SIZE;
 use crate::measure::same_check;
 use crate::measure::same_description;
 use crate::measure::whole_word;
@@ -30,7 +31,7 @@ fn message_of<'f, K: Kind>(
     let (message, tail) = word.split_at(word.len() - usize::from(check));
     let mut buffer = [0; 64];
     let right = check_of(bank, d, message, &mut buffer)?;
-    same_check(16 + message.len(), tail, right)?;
+    same_check(SIZE + message.len(), tail, right)?;
     Ok(message)
 }
 

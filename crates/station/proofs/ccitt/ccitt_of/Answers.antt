@@ -1,6 +1,6 @@
 -- One byte more, and in the end the remainder of all.
 -- Assumes nothing.
-use mathlib.Core.Path.{_≡_, refl, _∙_, ap}
+use mathlib.Core.Path.{refl, _∙_, ap}
 use native.Mathlib.Omega.{arith}
 use lib.Dec.{lit<}
 use Rattle.std.proofs.shelf.Lists.{take-all}

@@ -1,12 +1,9 @@
 -- Where the strings stop agreeing, or do not.
 -- Assumes nothing.
 use mathlib.Core.Path.{_≡_, sym, ap, _∙_}
-use mathlib.Core.Logic.{_⊎_, inl, inr, ⊎-elim}
-use Prim.Native.Nat.{_≤_, _<_, min}
+use Prim.Native.Nat.{min}
 use native.Mathlib.Omega.{arith}
-use borrow.Author.Needs.{needs}
-use native.Mathlib.Nat.{le-total}
-use lib.ListN.{length, take}
+use lib.ListN.{length}
 use lib.Seq.{take-all}
 use Rattle.std.proofs.shelf.Lists.{take-more-same}
 use Rattle.station.specs.Frame.{differ}

@@ -9,4 +9,6 @@ returns g c = record {
   book = c .run-all .ensures .book;
   promises = stations-promise;
   bank = c .run-all .ensures .bank;
+  admitted = c .run-all .ensures .admitted;
+  few = c .run-all .ensures .few;
 }

@@ -1,9 +1,10 @@
 -- One call more, and in the end all of them.
 -- Assumes nothing.
-use mathlib.Core.Path.{_≡_, refl, sym, ap, ap₂, _∙_}
+use mathlib.Core.Path.{refl, ap, ap₂, _∙_}
 use mathlib.Core.Bool.{cond}
 use mathlib.Core.List.{List, [], _∷_, _++_}
 use native.Mathlib.Omega.{arith}
+use lib.ListN.{length-take}
 use Rattle.std.proofs.shelf.Lists.{take-all}
 use Rattle.std.specs.Of.Vec.{vec-items}
 use Rattle.std.specs.Results.{isOk}
@@ -13,6 +14,8 @@ use Rattle.station.specs.Book.{emptyBook}
 use Rattle.station.specs.Calls.{answersFrom, run}
 use Rattle.station.specs.Items.{items}
 use Rattle.station.specs.Outcomes.{plainCalls, outcomesSeen}
+use Rattle.station.specs.Fitting.{allAdmitted}
+use Rattle.station.proofs.Admission.{run-admitted}
 use Rattle.station.proofs.Runs.{turn}
 use Rattle.station.proofs.run.run_all.Needs as need
 
@@ -38,8 +41,14 @@ returns g c =
     let l = c .loop-call in
     let all = take-all (l .call-index) (c .args .calls .now) (omega arith) in
     let bank = ap m (c .new-station .ensures .bank) in
+    let book = l .inv .1 ∙ ap₂ (λ (k : Model) (cs : List Made). run (asked k) emptyBook (plainCalls cs)) bank all in
+    let b = l .station .book in
     record {
       outcomes = l .inv .0 ∙ ap₂ (λ (k : Model) (cs : List Made). answersFrom (asked k) emptyBook (plainCalls cs)) bank all;
-      book = l .inv .1 ∙ ap₂ (λ (k : Model) (cs : List Made). run (asked k) emptyBook (plainCalls cs)) bank all;
+      book = book;
       bank = l .inv .2 ∙ bank;
+      admitted =
+          ap (λ p. allAdmitted (asked (m (c .args .bank))) (p .entries)) book
+          ∙ run-admitted (asked (m (c .args .bank))) emptyBook (plainCalls (c .args .calls .now)) refl;
+      few = simp length-take (omega (arith, b .fits));
     }

@@ -1,6 +1,6 @@
 -- Copies: the call writes into the copy, and that is what comes back.
 -- Assumes nothing.
-use mathlib.Core.Path.{_≡_, refl, sym, ap, _∙_}
+use mathlib.Core.Path.{_≡_, sym, ap, _∙_}
 use borrow.Author.Needs.{needs}
 use lib.ListN.{length, drop}
 use Rattle.answer.specs.Refusal.{read}

@@ -1,6 +1,6 @@
 -- At an admitted book every check has the sheet's length.
 -- Assumes nothing.
-use mathlib.Core.Path.{_≡_, ap, _∙_}
+use mathlib.Core.Path.{ap, _∙_}
 use lib.ListN.{length}
 use Rattle.code.specs.Model.{asked, lengthOf, written}
 use Rattle.station.specs.Fitting.{Admitted}

@@ -1,9 +1,8 @@
 -- The entry at the number's place.
 -- Assumes nothing.
-use mathlib.Core.Path.{_≡_, sym, ap, _∙_}
-use Rattle.std.specs.declared.option.Option.the-variants.{Some, None}
+use mathlib.Core.Path.{sym, ap, _∙_}
+use Rattle.std.specs.declared.option.Option.the-variants.{Some}
 use lib.Seq.{getD-take}
-use Rattle.station.specs.Book.{heldIn}
 use Rattle.station.specs.Items.{items}
 use Rattle.station.proofs.Places.{blank, at, off}
 use Rattle.station.proofs.table.Book.get.Needs as need

@@ -1,6 +1,6 @@
 -- One entry's reach, at the number's place.
 -- Assumes nothing.
-use mathlib.Core.Path.{_≡_, refl, sym, ap, _∙_}
+use mathlib.Core.Path.{_≡_, sym, ap, _∙_}
 use lib.ListN.{take, getD, set}
 use lib.Seq.{getD-take, take-set-lt}
 use Rattle.station.specs.Book.{bookOf, withReach}

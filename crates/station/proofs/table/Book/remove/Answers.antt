@@ -1,6 +1,6 @@
 -- The gap is closed.
 -- Assumes nothing.
-use mathlib.Core.Path.{_≡_, refl, sym, ap, _∙_}
+use mathlib.Core.Path.{refl, sym, ap, _∙_}
 use native.Mathlib.Omega.{arith}
 use Rattle.station.specs.Book.{bookOf}
 use Rattle.station.specs.Items.{items}
