@@ -3,6 +3,7 @@ ghost use mathlib.Core.Path.{_≡_};
 ghost use Prim.Native.Nat.{_≤_};
 ghost use lib.ListN.{length};
 ghost use Rattle.std.specs.Vec.{made};
+ghost use Rattle.answer.specs.Refusal.{ifOk};
 ghost use Rattle.code.specs.Model.{asked};
 ghost use Rattle.std.specs.Of.Vec.{vec-items};
 ghost use Rattle.station.specs.Book.{emptyBook};
@@ -20,10 +21,10 @@ use std::alloc::AllocError;
 use std::alloc::Global;
 
 impl<K: Kind> Station<K> {
-    // Makes a call. The output and the frame are copies of what the call shows.
+    // Makes a call. The output and the frame are copies of what the call shows; without memory for them nothing is done.
     pub fn perform<'a>(&mut self, heap: Global, call: Call<'a>) -> Result<Outcome<'a>, AllocError>
         ensures answer { λ r. ⌜ made r (λ o. Admitted (asked (model (now (self .entry) .bank))) (items (now (self .entry) .book)) → outcomeSeen o ≡ answer (asked (model (now (self .entry) .bank))) (items (now (self .entry) .book)) (plainCall (call .entry))) ⌝ }
-        ensures book { λ r. ⌜ made r (λ _. items (now (self .exit) .book) ≡ step (asked (model (now (self .entry) .bank))) (items (now (self .entry) .book)) (plainCall (call .entry))) ⌝ }
+        ensures book { λ r. ⌜ items (now (self .exit) .book) ≡ ifOk r (step (asked (model (now (self .entry) .bank))) (items (now (self .entry) .book)) (plainCall (call .entry))) (items (now (self .entry) .book)) ⌝ }
         ensures bank { λ _. ⌜ model (now (self .exit) .bank) ≡ model (now (self .entry) .bank) ⌝ }
     {
         match call {
