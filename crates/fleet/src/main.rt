@@ -2,7 +2,6 @@
 // All six calls are made at both, faults are planted, and what was done and answered is printed in words.
 mod say;
 
-use say::told;
 use answer::fault::Fault;
 use code::bank::Bank;
 use code::bank::BankKind;
@@ -16,6 +15,7 @@ use code::weighted_kind::WeightedSum;
 use code::weighted_kind::WeightedSumKind;
 use engine::table::Table;
 use engine::table_engine::TableEngine;
+use say::told;
 use station::call::Call;
 use station::call::Outcome;
 use station::run::run;
@@ -33,7 +33,10 @@ const BLANK: [u8; 40] = [0; 40];
 
 // The kinds of both sites.
 fn kinds() -> Kinds {
-    Bank::new(Crc::new(TableEngine::new()), Bank::new(CrcParity::new(TableEngine::new()), WeightedSum))
+    Bank::new(
+        Crc::new(TableEngine::new()),
+        Bank::new(CrcParity::new(TableEngine::new()), WeightedSum),
+    )
 }
 
 // The codes that the sites enter.
@@ -67,22 +70,80 @@ fn frame_of<'v>(outcome: Option<&'v Outcome<'_>>) -> &'v [u8] {
 // The old site: what it entered and sealed.
 fn old_site<'f>(rt: &LibcRuntime, c: Codes, reading: &'f [u8]) -> Result<(), AnyError> {
     let calls = [
-        Call::Enter { number: 5, description: c.crc_16, reach: 64 },
-        Call::Enter { number: 7, description: c.hec, reach: 15 },
-        Call::Enter { number: 7, description: c.crc_16, reach: 64 },
-        Call::Enter { number: 9, description: c.wsc, reach: 256 },
-        Call::Seal { number: 5, message: &READING, out: &BLANK[0..26] },
-        Call::Seal { number: 7, message: &[1], out: &BLANK[0..18] },
-        Call::Seal { number: 9, message: &READING, out: &BLANK[0..26] },
-        Call::Seal { number: 5, message: &[], out: &BLANK[0..26] },
-        Call::Seal { number: 7, message: &BLANK[0..15], out: &BLANK },
-        Call::Seal { number: 5, message: &READING, out: &BLANK[0..25] },
-        Call::Seal { number: 6, message: &READING, out: &BLANK[0..26] },
-        Call::Narrow { number: 5, reach: 10 },
-        Call::Narrow { number: 5, reach: 10 },
-        Call::Seal { number: 5, message: &LONGER, out: &BLANK },
+        Call::Enter {
+            number: 5,
+            description: c.crc_16,
+            reach: 64,
+        },
+        Call::Enter {
+            number: 7,
+            description: c.hec,
+            reach: 15,
+        },
+        Call::Enter {
+            number: 7,
+            description: c.crc_16,
+            reach: 64,
+        },
+        Call::Enter {
+            number: 9,
+            description: c.wsc,
+            reach: 256,
+        },
+        Call::Seal {
+            number: 5,
+            message: &READING,
+            out: &BLANK[0..26],
+        },
+        Call::Seal {
+            number: 7,
+            message: &[1],
+            out: &BLANK[0..18],
+        },
+        Call::Seal {
+            number: 9,
+            message: &READING,
+            out: &BLANK[0..26],
+        },
+        Call::Seal {
+            number: 5,
+            message: &[],
+            out: &BLANK[0..26],
+        },
+        Call::Seal {
+            number: 7,
+            message: &BLANK[0..15],
+            out: &BLANK,
+        },
+        Call::Seal {
+            number: 5,
+            message: &READING,
+            out: &BLANK[0..25],
+        },
+        Call::Seal {
+            number: 6,
+            message: &READING,
+            out: &BLANK[0..26],
+        },
+        Call::Narrow {
+            number: 5,
+            reach: 10,
+        },
+        Call::Narrow {
+            number: 5,
+            reach: 10,
+        },
+        Call::Seal {
+            number: 5,
+            message: &LONGER,
+            out: &BLANK,
+        },
         Call::Take { frame: reading },
-        Call::Trial { frame: reading, at: 20, byte: 0x01 },
+        Call::Trial {
+            frame: reading,
+            at: 20,
+            byte: 0x01,
+        },
         Call::Retire { number: 9 },
         Call::Retire { number: 9 },
     ];
@@ -93,33 +154,96 @@ fn old_site<'f>(rt: &LibcRuntime, c: Codes, reading: &'f [u8]) -> Result<(), Any
 }
 
 // The new site: what it makes of the old site's frames.
-fn new_site<'f>(rt: &LibcRuntime, c: Codes, reading: &'f [u8], short: &'f [u8], longer: &'f [u8], sums: &'f [u8]) -> Result<(), AnyError> {
+fn new_site<'f>(
+    rt: &LibcRuntime,
+    c: Codes,
+    reading: &'f [u8],
+    short: &'f [u8],
+    longer: &'f [u8],
+    sums: &'f [u8],
+) -> Result<(), AnyError> {
     let calls = [
-        Call::Enter { number: 5, description: c.long, reach: 511 },
-        Call::Enter { number: 7, description: c.hec, reach: 15 },
-        Call::Enter { number: 9, description: c.wsc, reach: 256 },
+        Call::Enter {
+            number: 5,
+            description: c.long,
+            reach: 511,
+        },
+        Call::Enter {
+            number: 7,
+            description: c.hec,
+            reach: 15,
+        },
+        Call::Enter {
+            number: 9,
+            description: c.wsc,
+            reach: 256,
+        },
         Call::Take { frame: reading },
         Call::Take { frame: short },
         Call::Take { frame: sums },
-        Call::Trial { frame: short, at: 0, byte: 0x02 },
-        Call::Trial { frame: short, at: 1, byte: 0x06 },
-        Call::Trial { frame: short, at: 15, byte: 0x63 },
-        Call::Trial { frame: short, at: 16, byte: 0x00 },
-        Call::Trial { frame: short, at: 17, byte: 0x06 },
-        Call::Trial { frame: short, at: 18, byte: 0x00 },
-        Call::Trial { frame: short, at: 16, byte: 0x01 },
-        Call::Take { frame: short.get(0..16).unwrap_or(&[]) },
+        Call::Trial {
+            frame: short,
+            at: 0,
+            byte: 0x02,
+        },
+        Call::Trial {
+            frame: short,
+            at: 1,
+            byte: 0x06,
+        },
+        Call::Trial {
+            frame: short,
+            at: 15,
+            byte: 0x63,
+        },
+        Call::Trial {
+            frame: short,
+            at: 16,
+            byte: 0x00,
+        },
+        Call::Trial {
+            frame: short,
+            at: 17,
+            byte: 0x06,
+        },
+        Call::Trial {
+            frame: short,
+            at: 18,
+            byte: 0x00,
+        },
+        Call::Trial {
+            frame: short,
+            at: 16,
+            byte: 0x01,
+        },
+        Call::Take {
+            frame: short.get(0..16).unwrap_or(&[]),
+        },
         Call::Take { frame: longer },
-        Call::Narrow { number: 9, reach: 9 },
+        Call::Narrow {
+            number: 9,
+            reach: 9,
+        },
         Call::Take { frame: sums },
         Call::Retire { number: 7 },
         Call::Take { frame: short },
-        Call::Enter { number: 7, description: c.ccitt, reach: 4095 },
+        Call::Enter {
+            number: 7,
+            description: c.ccitt,
+            reach: 4095,
+        },
         Call::Take { frame: short },
-        Call::Seal { number: 7, message: &[1], out: &BLANK[0..19] },
+        Call::Seal {
+            number: 7,
+            message: &[1],
+            out: &BLANK[0..19],
+        },
     ];
     let ran = run(rt.alloc(), kinds(), &calls)?;
-    println!(rt, "\nThe new site, whose set-up tool saved another code under 5, takes")?;
+    println!(
+        rt,
+        "\nThe new site, whose set-up tool saved another code under 5, takes"
+    )?;
     told(rt, &calls, &ran.outcomes)?;
     Ok(())
 }
@@ -130,13 +254,41 @@ fn fleet(rt: &LibcRuntime) -> Result<(), AnyError> {
         return Err("no such code".into());
     };
     let sealing = [
-        Call::Enter { number: 5, description: c.crc_16, reach: 64 },
-        Call::Enter { number: 7, description: c.hec, reach: 15 },
-        Call::Enter { number: 9, description: c.wsc, reach: 256 },
-        Call::Seal { number: 5, message: &READING, out: &BLANK[0..26] },
-        Call::Seal { number: 7, message: &[1], out: &BLANK[0..18] },
-        Call::Seal { number: 9, message: &READING, out: &BLANK[0..26] },
-        Call::Seal { number: 7, message: &[1], out: &BLANK[0..19] },
+        Call::Enter {
+            number: 5,
+            description: c.crc_16,
+            reach: 64,
+        },
+        Call::Enter {
+            number: 7,
+            description: c.hec,
+            reach: 15,
+        },
+        Call::Enter {
+            number: 9,
+            description: c.wsc,
+            reach: 256,
+        },
+        Call::Seal {
+            number: 5,
+            message: &READING,
+            out: &BLANK[0..26],
+        },
+        Call::Seal {
+            number: 7,
+            message: &[1],
+            out: &BLANK[0..18],
+        },
+        Call::Seal {
+            number: 9,
+            message: &READING,
+            out: &BLANK[0..26],
+        },
+        Call::Seal {
+            number: 7,
+            message: &[1],
+            out: &BLANK[0..19],
+        },
     ];
     let sent = run(rt.alloc(), kinds(), &sealing)?;
     let reading = frame_of(sent.outcomes.get(3));

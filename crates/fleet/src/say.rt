@@ -36,10 +36,18 @@ pub fn told(rt: &LibcRuntime, calls: &[Call<'_>], outcomes: &[Outcome<'_>]) -> i
 
 fn asked(rt: &LibcRuntime, call: &Call<'_>) -> io::Result<()> {
     match call {
-        Call::Enter { number, description: _, reach } => print!(rt, "  enter {number}, reach {reach}: "),
+        Call::Enter {
+            number,
+            description: _,
+            reach,
+        } => print!(rt, "  enter {number}, reach {reach}: "),
         Call::Narrow { number, reach } => print!(rt, "  narrow {number} to {reach}: "),
         Call::Retire { number } => print!(rt, "  retire {number}: "),
-        Call::Seal { number, message, out: _ } => print!(rt, "  seal {} under {number}: ", Bytes { bytes: message }),
+        Call::Seal {
+            number,
+            message,
+            out: _,
+        } => print!(rt, "  seal {} under {number}: ", Bytes { bytes: message }),
         Call::Take { frame } => print!(rt, "  take a frame of {} bytes: ", frame.len()),
         Call::Trial { frame: _, at, byte } => print!(rt, "  trial with {byte:02X} at {at}: "),
     }
@@ -64,5 +72,10 @@ fn refused(rt: &LibcRuntime, fault: Fault) -> io::Result<()> {
         Layer::Book => "book",
         Layer::Frame => "frame",
     };
-    println!(rt, "refused with {} by the {layer} at {}", fault.number(), fault.place())
+    println!(
+        rt,
+        "refused with {} by the {layer} at {}",
+        fault.number(),
+        fault.place()
+    )
 }
