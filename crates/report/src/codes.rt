@@ -45,7 +45,7 @@ const WIDE: Description = Description {
 };
 
 // Every published code, and what admission answers to some descriptions.
-pub fn codes(rt: &LibcRuntime) -> io::Result<()> {
+pub(crate) fn codes(rt: &LibcRuntime) -> io::Result<()> {
     let mut bank = Bank::new(
         Crc::new(TableEngine::new()),
         Bank::new(CrcParity::new(TableEngine::new()), WeightedSum),

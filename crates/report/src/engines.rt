@@ -23,7 +23,7 @@ pub struct Engines {
 }
 
 impl Engines {
-    pub fn start() -> Engines {
+    pub(crate) fn start() -> Engines {
         Engines {
             bitwise: BitwiseEngine::new(),
             table: TableEngine::new(),
@@ -33,7 +33,12 @@ impl Engines {
     }
 
     // The remainder of a message by each engine, or its refusal.
-    pub fn remainders(&mut self, degree: u8, low: u32, message: &[u8]) -> [Result<u32, Fault>; 4] {
+    pub(crate) fn remainders(
+        &mut self,
+        degree: u8,
+        low: u32,
+        message: &[u8],
+    ) -> [Result<u32, Fault>; 4] {
         [
             remainder_by(&mut self.bitwise, degree, low, message),
             remainder_by(&mut self.table, degree, low, message),
@@ -43,7 +48,12 @@ impl Engines {
     }
 
     // The same of pieces, by running checks.
-    pub fn in_pieces(&self, degree: u8, low: u32, pieces: &[&[u8]]) -> [Result<u32, Fault>; 4] {
+    pub(crate) fn in_pieces(
+        &self,
+        degree: u8,
+        low: u32,
+        pieces: &[&[u8]],
+    ) -> [Result<u32, Fault>; 4] {
         [
             by_pieces(self.bitwise, degree, low, pieces),
             by_pieces(self.table, degree, low, pieces),

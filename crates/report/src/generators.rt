@@ -68,7 +68,7 @@ const PUBLISHED: [Published; 9] = [
 ];
 
 // Every generator, one block each.
-pub fn survey(rt: &LibcRuntime, engines: &mut Engines) -> io::Result<()> {
+pub(crate) fn survey(rt: &LibcRuntime, engines: &mut Engines) -> io::Result<()> {
     for published in &PUBLISHED {
         block(rt, engines, published.name, published.degree, published.low)?;
         println!(rt, "")?;

@@ -9,7 +9,7 @@ use answer::fault::Fault;
 use poly::period::period;
 use std::io;
 
-pub fn refusals(rt: &LibcRuntime, engines: &mut Engines) -> io::Result<()> {
+pub(crate) fn refusals(rt: &LibcRuntime, engines: &mut Engines) -> io::Result<()> {
     println!(rt, "Refusals")?;
     for (degree, low) in [(7u8, 0x07u32), (33, 0x07), (8, 0x06), (8, 0x0107)] {
         let [bitwise, _, _, _] = engines.remainders(degree, low, &[]);

@@ -24,7 +24,7 @@ pub impl fmt::Display for Hex as HexDisplay {
 }
 
 // A low part or a remainder of a generator, four bits of the degree a digit.
-pub fn hex_for(degree: u8, value: u32) -> Hex {
+pub(crate) fn hex_for(degree: u8, value: u32) -> Hex {
     Hex {
         value,
         digits: degree.div_ceil(4),
@@ -32,7 +32,7 @@ pub fn hex_for(degree: u8, value: u32) -> Hex {
 }
 
 // A number in whole bytes.
-pub fn hex_even(value: u32) -> Hex {
+pub(crate) fn hex_even(value: u32) -> Hex {
     let digits = if value >> 24 != 0 {
         8
     } else if value >> 16 != 0 {
