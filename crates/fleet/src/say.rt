@@ -26,7 +26,11 @@ impl fmt::Display for Bytes<'_> as BytesDisplay {
 }
 
 // Every call with its outcome, a line each.
-pub fn told(rt: &LibcRuntime, calls: &[Call<'_>], outcomes: &[Outcome<'_>]) -> io::Result<()> {
+pub(crate) fn told(
+    rt: &LibcRuntime,
+    calls: &[Call<'_>],
+    outcomes: &[Outcome<'_>],
+) -> io::Result<()> {
     for (call, outcome) in calls.iter().zip(outcomes.iter()) {
         asked(rt, call)?;
         answered(rt, outcome)?;
