@@ -16,11 +16,11 @@ pub fn remainder_by<E: Engine>(
     low: u32,
     message: &[u8],
 ) -> Result<u32, Fault>
-    ensures answer { read result ≡ by_rules (set_rules (carries_of engine.old degree low) degree low) (remainder degree low message.now) }
-    ensures degree { degree_of engine.new ≡ if_ok result degree (degree_of engine.old) }
-    ensures low { low_of engine.new ≡ if_ok result low (low_of engine.old) }
-    ensures register { register_of engine.new ≡ if_ok result (remainder degree low message.now) (register_of engine.old) }
-    ensures carries { carries_of engine.new ≡ carries_of engine.old }
+    ensures answer { read result ≡ by_rules (set_rules (E.carries_of engine.old degree low) degree low) (remainder degree low message.now) }
+    ensures degree { E.degree_of engine.new ≡ if_ok result degree (E.degree_of engine.old) }
+    ensures low { E.low_of engine.new ≡ if_ok result low (E.low_of engine.old) }
+    ensures register { E.register_of engine.new ≡ if_ok result (remainder degree low message.now) (E.register_of engine.old) }
+    ensures carries { E.carries_of engine.new ≡ E.carries_of engine.old }
 {
     engine.set(degree, low)?;
     engine.feed_all(message);

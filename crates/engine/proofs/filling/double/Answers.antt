@@ -63,8 +63,8 @@ loop-k-preserved c =
     let g = c.args.generator in
     let low = ap₂ (λ l s. l * 2 ^ s % 2 ^ 32) c.low.ensures c.loop-k.invariant.0 ∙ to_top g.degree g.low g.ok.2 g.ok.1 g.low g.ok.2 in (
       c.loop-k.invariant.0,
-      more_at_top g.degree g.low g.ok.2 g.ok.1 _ low c.args.first c.loop-k.k c.loop-k.power c.twice-at-top-power.result
-          c.loop-k.invariant.1 c.twice-at-top-power.ensures,
+      more_at_top g.degree g.low g.ok.2 g.ok.1 _ low c.args.first c.loop-k.k c.loop-k.power c.twice_at_top-power.result
+          c.loop-k.invariant.1 c.twice_at_top-power.ensures,
       λ a l.
           let n : 1 * 2 ^ c.loop-k.k % 2 ^ 64 ≡ 2 ^ c.loop-k.k = one_shl c.loop-k.k 64 (omega arith) in
           let m : 2 ^ (c.loop-k.k + 1) ≡ 2 ^ c.loop-k.k * 2 = pow-add 2 c.loop-k.k 1 in

@@ -10,8 +10,8 @@ pub loop-b-preserved : goal.loop-b-preserved
 loop-b-preserved c =
     let g = c.args.generator in (
       fed_all_more g.degree g.low c.args.register c.args.bytes.now c.loop-b.b-index g.degree g.low c.loop-b.r
-          c.look-up-r.result (omega arith) c.loop-b.invariant.0 refl refl c.look-up-r.ensures.fed,
-      c.look-up-r.ensures.below,
+          c.look_up-r.result (omega arith) c.loop-b.invariant.0 refl refl c.look_up-r.ensures.fed,
+      c.look_up-r.ensures.below,
     )
 
 pub returns : goal.returns

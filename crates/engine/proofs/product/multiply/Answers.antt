@@ -14,9 +14,9 @@ product-requires c =
 pub returns : goal.returns
 returns c =
     let g = c.args.generator in
-    let e = ap (bit_xor c.moved-up.result) (c.product.ensures ∙ ap (clmul c.top-byte-top.result) c.low-low.ensures)
+    let e = ap (bit_xor c.moved_up.result) (c.product.ensures ∙ ap (clmul c.top_byte-top.result) c.low-low.ensures)
     ∙ multiplied g.degree g.low g.ok.2 c.requires.0 c.requires.1.1 c.args.register c.args.q
-    c.top-byte-top.result c.moved-up.result c.requires.1.0 c.ranges.q.fits
-    (c.top-byte-top.ensures ∙ ap (λ h. bit_xor (c.args.register / 2 ^ (h - 8)) c.args.q) c.degree-h.ensures)
-    (c.moved-up.ensures ∙ ap (λ h. c.args.register * 2 ^ 8 % 2 ^ h) c.degree-h.ensures) in
+    c.top_byte-top.result c.moved_up.result c.requires.1.0 c.ranges.q.fits
+    (c.top_byte-top.ensures ∙ ap (λ h. bit_xor (c.args.register / 2 ^ (h - 8)) c.args.q) c.degree-h.ensures)
+    (c.moved_up.ensures ∙ ap (λ h. c.args.register * 2 ^ 8 % 2 ^ h) c.degree-h.ensures) in
     record { fed = e; below = fed_bound g.degree g.low g.ok.2 c.args.register c.args.q _ e }

@@ -12,12 +12,12 @@ use Rattle.engine.proofs.remainder.remainder_by.Goals as goal
 pub returns : goal.returns
 returns g c =
     let e = g.E.Engine in
-    let set = c.in-ok-set.ensures in
-    let fed = c.feed-all.ensures in
+    let set = c.in_ok-set.ensures in
+    let fed = c.feed_all.ensures in
     let x = c.set.new.self in
     let rules = set_rules (e.carries_of c.args.engine.now c.args.degree c.args.low) c.args.degree c.args.low in
-    let left : e.register_of c.feed-all.new.self ≡ remainder c.args.degree c.args.low c.args.message.now =
-    fed_message c.args.degree c.args.low (e.degree_of x) (e.low_of x) (e.register_of x) (e.register_of c.feed-all.new.self)
+    let left : e.register_of c.feed_all.new.self ≡ remainder c.args.degree c.args.low c.args.message.now =
+    fed_message c.args.degree c.args.low (e.degree_of x) (e.low_of x) (e.register_of x) (e.register_of c.feed_all.new.self)
     c.args.message.now (g.met.E.Engine.sound x).small set.degree set.low set.register fed.register in
     record {
       answer =

@@ -3,7 +3,7 @@
 use Rattle.std.proofs.Common.{◌≡◌, ◌+◌, ◌-◌, ◌^◌, ◌<◌, subst, arith, shr_lt}
 use Rattle.engine.proofs.stepping.top_byte.Goals as goal
 
-pub overflow-cast-result-2 : goal.overflow-cast-result-2
-overflow-cast-result-2 c =
+pub overflow_cast-result-2 : goal.overflow_cast-result-2
+overflow_cast-result-2 c =
     let e : c.args.degree ≡ 8 + (c.args.degree - 8) = omega arith in
     record { fits = shr_lt 8 (c.args.degree - 8) (subst (λ n. c.args.register < 2 ^ n) e c.requires.1.1) }

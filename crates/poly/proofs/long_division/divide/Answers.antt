@@ -27,8 +27,8 @@ pub loop-i-preserved : goal.loop-i-preserved
 loop-i-preserved c =
     let g = c.args.generator in
     bit_at_top g.degree g.low g.ok.2 g.ok.1 g.ok.0 _ (to_top g.degree g.low g.ok.2 g.ok.1 g.low g.ok.2)
-    c.args.p c.loop-i.i c.loop-i.r c.twice-at-top.result _ (omega arith)
-    c.loop-i.invariant c.twice-at-top.ensures (and_mask (c.args.p / 2 ^ (31 - c.loop-i.i)) 1)
+    c.args.p c.loop-i.i c.loop-i.r c.twice_at_top.result _ (omega arith)
+    c.loop-i.invariant c.twice_at_top.ensures (and_mask (c.args.p / 2 ^ (31 - c.loop-i.i)) 1)
 
 pub returns : goal.returns
 returns c =

@@ -50,7 +50,7 @@ unfolding up one
 returns-then-power-one c =
     let g = c.args.generator in
     let l = c.loop-done in
-    let here = next g l.done l.power c.twice-at-top-power.result l.invariant.0 c.twice-at-top-power.ensures in (
+    let here = next g l.done l.power c.twice_at_top-power.result l.invariant.0 c.twice_at_top-power.ensures in (
       (omega arith, from-top g (l.done + 1) (sym here ∙ c.if-power-one.true), λ j n m r. l.invariant.1 j n m (to-the-top g j r)),
       omega arith,
       refl,
@@ -61,7 +61,7 @@ unfolding up one
 loop-done-preserved c =
     let g = c.args.generator in
     let l = c.loop-done in
-    let here = next g l.done l.power c.twice-at-top-power.result l.invariant.0 c.twice-at-top-power.ensures in (
+    let here = next g l.done l.power c.twice_at_top-power.result l.invariant.0 c.twice_at_top-power.ensures in (
       here,
       none_more (λ j. rem 32 (up g) (one g * 2 ^ j) ≡ one g) (l.done + 1) l.invariant.1 (λ e. c.if-power-one.false (here ∙ e)),
     )

@@ -7,13 +7,13 @@ pub returns : goal.returns
 returns g c =
     let e = g.E.Engine in
     let x = c.args.self.now.engine in
-    let r = c.feed-all.ensures in
+    let r = c.feed_all.ensures in
     record {
       degree = r.degree;
       low = r.low;
       register = r.register;
       carries = r.carries;
       joined =
-          carried_on (e.degree_of x) (e.low_of x) (e.register_of x) (e.register_of c.feed-all.new.self) c.args.piece.now
+          carried_on (e.degree_of x) (e.low_of x) (e.register_of x) (e.register_of c.feed_all.new.self) c.args.piece.now
           (g.met.E.Engine.sound x).small r.register;
     }

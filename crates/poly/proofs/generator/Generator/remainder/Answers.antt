@@ -19,7 +19,7 @@ loop-preserved c =
     let g = c.args.self in
     let s : ℕ = 32 - g.degree in
     let up : ℕ = g.low * 2 ^ s % 2 ^ 32 in
-    c.twice-at-top-r.ensures ∙ ap (λ x. rem 32 up (x * 2)) c.loop.invariant
+    c.twice_at_top-r.ensures ∙ ap (λ x. rem 32 up (x * 2)) c.loop.invariant
     ∙ times_more 32 up (mod-lt (g.low * 2 ^ s) (pow_pos 32)) (c.divide.result * 2 ^ s % 2 ^ 32) c.loop.counter
 
 pub returns : goal.returns
