@@ -93,8 +93,8 @@ def table(root):
     return texts, rows, declared - set(LEMMAS), outside
 
 
-def turned(rows, path, text):
-    if path.endswith(".antt"):
+def turned(rows, path, text, first):
+    if first and path.endswith(".antt"):
         # these are also names of Rust functions, which stand behind or before a dot
         for old, new in LEMMAS.items():
             text = re.sub(r"(?<![\w'.-])%s(?![\w'.-])" % old, new, text)
@@ -115,15 +115,17 @@ def main():
             print(old + "\t" + new)
         return
     # a name that is turned can be what another is joined to: again until nothing is left
+    first = True
     while rows:
         changed = 0
         for p, t in texts.items():
-            new = turned(rows, p, t)
+            new = turned(rows, p, t, first)
             if new != t:
                 changed += 1
                 with open(p, "w", encoding="utf-8") as f:
                     f.write(new)
         print("%d names, %d files" % (len(rows), changed))
+        first = False
         if not changed:
             sys.exit("left: " + ", ".join(rows))
         texts, rows, declared, outside = table(root)

@@ -3,9 +3,9 @@
 use Rattle.std.proofs.Common.{◌≡◌, ℕ, ◌+◌, ◌*◌, ◌^◌, ◌<◌, ◌≤◌, Bool, true, cond, ◌&&◌, ltb, leb, List, ◌++◌, length, take, drop, ap, ◌∙◌}
 use Rattle.std.proofs.lemmas.Bool.{leb-true, ltb-true, le-leb, lt-ltb, and_parts}
 use Rattle.words.specs.Digits.{digits}
-use Rattle.code.specs.Output.{has_room_lem, with_number}
+use Rattle.code.specs.Output.{has_room, with_number}
 
-pub has_room_lem : (room at count value : ℕ) → count ≤ 4 → at + count ≤ room → value < 2 ^ (8 * count) → has_room_lem room at count value ≡ true
+pub has_room_lem : (room at count value : ℕ) → count ≤ 4 → at + count ≤ room → value < 2 ^ (8 * count) → has_room room at count value ≡ true
 has_room_lem room at count value few fits below =
     let a = le-leb count 4 few in
     let b = le-leb (at + count) room fits in
@@ -17,7 +17,7 @@ pub put_is : (out : List ℕ) (at count value : ℕ) → count ≤ 4 → at + co
 put_is out at count value few fits below =
     ap (λ b. cond b (take at out ++ (digits count value ++ drop (at + count) out)) out) (has_room_lem (length out) at count value few fits below)
 
-pub room_is : (room at count value : ℕ) → has_room_lem room at count value ≡ true → (count ≤ 4) × (at + count ≤ room) × (value < 2 ^ (8 * count))
+pub room_is : (room at count value : ℕ) → has_room room at count value ≡ true → (count ≤ 4) × (at + count ≤ room) × (value < 2 ^ (8 * count))
 room_is room at count value e =
     let p = and_parts (leb count 4 && leb (at + count) room) (ltb value (2 ^ (8 * count))) e in
     let q = and_parts (leb count 4) (leb (at + count) room) p.0 in

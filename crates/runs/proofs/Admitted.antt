@@ -7,7 +7,7 @@ use Rattle.answer.proofs.Ruled.{kept, kept_append}
 use Rattle.code.specs.declared.description.Description.{Description}
 use Rattle.code.specs.Model.{Fits, Model, Asked, asked, described_rules, Admits}
 use Rattle.station.specs.declared.entry.Entry.{Entry}
-use Rattle.station.specs.Book.{PlainBook, empty_book, entry_of, with_reach, held_in_lem, held, entered, narrowed_in, narrowed, retired_in, retired}
+use Rattle.station.specs.Book.{PlainBook, empty_book, entry_of, with_reach, held_in, held, entered, narrowed_in, narrowed, retired_in, retired}
 use Rattle.station.specs.Frame.{entry_at}
 use Rattle.station.specs.Calls.{Call, change, ask, enter, narrow, retire, step, run, book_after, entering, narrowing, retiring, Typed}
 use Rattle.runs.proofs.Inverts.{no_way, some_is, then_ok, need_ok, entry_ok, Fit}
@@ -32,22 +32,22 @@ module _ (P : Entry → Type 0) where
   kept_retired [] n a = tt
   kept_retired (x ∷ es) n a = on_cond (eqb x.number n) es (x ∷ retired_in es n) a.1 (a.0, kept_retired es n a.1)
 
-  pub all_in : (es : List Entry) (n : ℕ) (e : Entry) → All P es → held_in_lem es n ≡ Some e → P e
+  pub all_in : (es : List Entry) (n : ℕ) (e : Entry) → All P es → held_in es n ≡ Some e → P e
   all_in [] n e a h = no_way (cc)
   all_in (x ∷ es) n e a h = here (eqb x.number n) (λ q. all_in es n e a.1 q) h
     where
-      here : (b : Bool) → (held_in_lem es n ≡ Some e → P e) → cond b (Some x) (held_in_lem es n) ≡ Some e → P e
+      here : (b : Bool) → (held_in es n ≡ Some e → P e) → cond b (Some x) (held_in es n) ≡ Some e → P e
       here true k q = subst P (some_is x e q) a.0
       here false k q = k q
 
   pub all_held : (b : PlainBook) (n : ℕ) (e : Entry) → All P b.entries → held b n ≡ Some e → P e
   all_held b n e a h = all_in b.entries n e a h
 
-  kept_narrowed : (es : List Entry) (n r : ℕ) (e : Entry) → All P es → held_in_lem es n ≡ Some e → P (with_reach e r) → All P (narrowed_in es n r)
+  kept_narrowed : (es : List Entry) (n r : ℕ) (e : Entry) → All P es → held_in es n ≡ Some e → P (with_reach e r) → All P (narrowed_in es n r)
   kept_narrowed [] n r e a h p = tt
   kept_narrowed (x ∷ es) n r e a h p = here (eqb x.number n) (λ q. kept_narrowed es n r e a.1 q p) h
     where
-      here : (b : Bool) → (held_in_lem es n ≡ Some e → All P (narrowed_in es n r)) → cond b (Some x) (held_in_lem es n) ≡ Some e
+      here : (b : Bool) → (held_in es n ≡ Some e → All P (narrowed_in es n r)) → cond b (Some x) (held_in es n) ≡ Some e
           → All P (cond b (with_reach x r ∷ es) (x ∷ narrowed_in es n r))
       here true k q = (subst (λ y. P (with_reach y r)) (sym (some_is x e q)) p, a.1)
       here false k q = (a.0, k q)
@@ -112,11 +112,11 @@ module _ (a : Asked) where
 
 -- ---- an entry stands under its own number
 
-pub held_number : (es : List Entry) (n : ℕ) (e : Entry) → held_in_lem es n ≡ Some e → e.number ≡ n
+pub held_number : (es : List Entry) (n : ℕ) (e : Entry) → held_in es n ≡ Some e → e.number ≡ n
 held_number [] n e h = no_way (cc)
 held_number (x ∷ es) n e h = here (eqb x.number n) refl (held_number es n e) h
   where
-    here : (b : Bool) → eqb x.number n ≡ b → (held_in_lem es n ≡ Some e → e.number ≡ n) → cond b (Some x) (held_in_lem es n) ≡ Some e → e.number ≡ n
+    here : (b : Bool) → eqb x.number n ≡ b → (held_in es n ≡ Some e → e.number ≡ n) → cond b (Some x) (held_in es n) ≡ Some e → e.number ≡ n
     here true t k q = ap (λ (y : Entry). y.number) (sym (some_is x e q)) ∙ eqb-true x.number n t
     here false t k q = k q
 

@@ -9,7 +9,7 @@ use Rattle.answer.specs.Rules.{then, need}
 use Rattle.code.specs.declared.description.Description.{Description}
 use Rattle.code.specs.Model.{Asked, asked}
 use Rattle.station.specs.declared.entry.Entry.{Entry}
-use Rattle.station.specs.Book.{PlainBook, empty_book, entry_of, with_reach, held_in_lem, held, entered, narrowed_in, narrowed, retired_in, retired}
+use Rattle.station.specs.Book.{PlainBook, empty_book, entry_of, with_reach, held_in, held, entered, narrowed_in, narrowed, retired_in, retired}
 use Rattle.station.specs.Frame.{entry_at}
 use Rattle.station.specs.Calls.{enter, narrow, retire, Call, change, ask, changed, entering, narrowing, retiring, step, run, book_after}
 use Rattle.runs.specs.Books.{about, BookLaws}
@@ -28,114 +28,114 @@ miss false x y e = (refl, e)
 
 -- ---- one more entry
 
-push_other : (es : List Entry) (e : Entry) (k : ℕ) → eqb e.number k ≡ false → held_in_lem (es ++ e ∷ []) k ≡ held_in_lem es k
+push_other : (es : List Entry) (e : Entry) (k : ℕ) → eqb e.number k ≡ false → held_in (es ++ e ∷ []) k ≡ held_in es k
 push_other [] e k q = cond_f (Some e) None q
 push_other (x ∷ es) e k q = ap (cond (eqb x.number k) (Some x)) (push_other es e k q)
 
-push_own : (es : List Entry) (e : Entry) → held_in_lem es e.number ≡ None → held_in_lem (es ++ e ∷ []) e.number ≡ Some e
+push_own : (es : List Entry) (e : Entry) → held_in es e.number ≡ None → held_in (es ++ e ∷ []) e.number ≡ Some e
 push_own [] e h = cond_t (Some e) None (eq-eqb e.number e.number refl)
 push_own (x ∷ es) e h =
-    let k = miss (eqb x.number e.number) x (held_in_lem es e.number) h in
-    cond_f (Some x) (held_in_lem (es ++ e ∷ []) e.number) k.0 ∙ push_own es e k.1
+    let k = miss (eqb x.number e.number) x (held_in es e.number) h in
+    cond_f (Some x) (held_in (es ++ e ∷ []) e.number) k.0 ∙ push_own es e k.1
 
 -- ---- a lower reach
 
-narrowed_own : (es : List Entry) (n r : ℕ) (e : Entry) → held_in_lem es n ≡ Some e → held_in_lem (narrowed_in es n r) n ≡ Some (with_reach e r)
+narrowed_own : (es : List Entry) (n r : ℕ) (e : Entry) → held_in es n ≡ Some e → held_in (narrowed_in es n r) n ≡ Some (with_reach e r)
 narrowed_own [] n r e h = no_way (cc)
 narrowed_own (x ∷ es) n r e h = go (eqb x.number n) refl (narrowed_own es n r e) h
   where
-    go : (b : Bool) → eqb x.number n ≡ b → (held_in_lem es n ≡ Some e → held_in_lem (narrowed_in es n r) n ≡ Some (with_reach e r))
-        → cond b (Some x) (held_in_lem es n) ≡ Some e → held_in_lem (cond b (with_reach x r ∷ es) (x ∷ narrowed_in es n r)) n ≡ Some (with_reach e r)
-    go true t ih q = cond_t (Some (with_reach x r)) (held_in_lem es n) t ∙ ap (λ y. Some (with_reach y r)) (some_is x e q)
-    go false t ih q = cond_f (Some x) (held_in_lem (narrowed_in es n r) n) t ∙ ih q
+    go : (b : Bool) → eqb x.number n ≡ b → (held_in es n ≡ Some e → held_in (narrowed_in es n r) n ≡ Some (with_reach e r))
+        → cond b (Some x) (held_in es n) ≡ Some e → held_in (cond b (with_reach x r ∷ es) (x ∷ narrowed_in es n r)) n ≡ Some (with_reach e r)
+    go true t ih q = cond_t (Some (with_reach x r)) (held_in es n) t ∙ ap (λ y. Some (with_reach y r)) (some_is x e q)
+    go false t ih q = cond_f (Some x) (held_in (narrowed_in es n r) n) t ∙ ih q
 
-narrowed_other : (es : List Entry) (n r k : ℕ) → ¬ (n ≡ k) → held_in_lem (narrowed_in es n r) k ≡ held_in_lem es k
+narrowed_other : (es : List Entry) (n r k : ℕ) → ¬ (n ≡ k) → held_in (narrowed_in es n r) k ≡ held_in es k
 narrowed_other [] n r k ne = refl
 narrowed_other (x ∷ es) n r k ne = go (eqb x.number n) refl (narrowed_other es n r k ne)
   where
-    go : (b : Bool) → eqb x.number n ≡ b → held_in_lem (narrowed_in es n r) k ≡ held_in_lem es k
-        → held_in_lem (cond b (with_reach x r ∷ es) (x ∷ narrowed_in es n r)) k ≡ cond (eqb x.number k) (Some x) (held_in_lem es k)
+    go : (b : Bool) → eqb x.number n ≡ b → held_in (narrowed_in es n r) k ≡ held_in es k
+        → held_in (cond b (with_reach x r ∷ es) (x ∷ narrowed_in es n r)) k ≡ cond (eqb x.number k) (Some x) (held_in es k)
     go true t ih =
         let other : eqb x.number k ≡ false = ne_eqb x.number k (λ e. ne (sym (eqb-true x.number n t) ∙ e)) in
-        cond_f (Some (with_reach x r)) (held_in_lem es k) other ∙ sym (cond_f (Some x) (held_in_lem es k) other)
+        cond_f (Some (with_reach x r)) (held_in es k) other ∙ sym (cond_f (Some x) (held_in es k) other)
     go false t ih = ap (cond (eqb x.number k) (Some x)) ih
 
-narrowed_none : (es : List Entry) (n r k : ℕ) → held_in_lem es k ≡ None → held_in_lem (narrowed_in es n r) k ≡ None
+narrowed_none : (es : List Entry) (n r k : ℕ) → held_in es k ≡ None → held_in (narrowed_in es n r) k ≡ None
 narrowed_none [] n r k h = refl
 narrowed_none (x ∷ es) n r k h =
-    let p = miss (eqb x.number k) x (held_in_lem es k) h in
+    let p = miss (eqb x.number k) x (held_in es k) h in
     go (eqb x.number n) p (narrowed_none es n r k p.1)
   where
-    go : (b : Bool) → (eqb x.number k ≡ false) × (held_in_lem es k ≡ None) → held_in_lem (narrowed_in es n r) k ≡ None
-        → held_in_lem (cond b (with_reach x r ∷ es) (x ∷ narrowed_in es n r)) k ≡ None
-    go true p ih = cond_f (Some (with_reach x r)) (held_in_lem es k) p.0 ∙ p.1
-    go false p ih = cond_f (Some x) (held_in_lem (narrowed_in es n r) k) p.0 ∙ ih
+    go : (b : Bool) → (eqb x.number k ≡ false) × (held_in es k ≡ None) → held_in (narrowed_in es n r) k ≡ None
+        → held_in (cond b (with_reach x r ∷ es) (x ∷ narrowed_in es n r)) k ≡ None
+    go true p ih = cond_f (Some (with_reach x r)) (held_in es k) p.0 ∙ p.1
+    go false p ih = cond_f (Some x) (held_in (narrowed_in es n r) k) p.0 ∙ ih
 
 -- ---- an entry less
 
-retired_other : (es : List Entry) (n k : ℕ) → ¬ (n ≡ k) → held_in_lem (retired_in es n) k ≡ held_in_lem es k
+retired_other : (es : List Entry) (n k : ℕ) → ¬ (n ≡ k) → held_in (retired_in es n) k ≡ held_in es k
 retired_other [] n k ne = refl
 retired_other (x ∷ es) n k ne = go (eqb x.number n) refl (retired_other es n k ne)
   where
-    go : (b : Bool) → eqb x.number n ≡ b → held_in_lem (retired_in es n) k ≡ held_in_lem es k
-        → held_in_lem (cond b es (x ∷ retired_in es n)) k ≡ cond (eqb x.number k) (Some x) (held_in_lem es k)
-    go true t ih = sym (cond_f (Some x) (held_in_lem es k) (ne_eqb x.number k (λ e. ne (sym (eqb-true x.number n t) ∙ e))))
+    go : (b : Bool) → eqb x.number n ≡ b → held_in (retired_in es n) k ≡ held_in es k
+        → held_in (cond b es (x ∷ retired_in es n)) k ≡ cond (eqb x.number k) (Some x) (held_in es k)
+    go true t ih = sym (cond_f (Some x) (held_in es k) (ne_eqb x.number k (λ e. ne (sym (eqb-true x.number n t) ∙ e))))
     go false t ih = ap (cond (eqb x.number k) (Some x)) ih
 
-retired-none : (es : List Entry) (n k : ℕ) → held_in_lem es k ≡ None → held_in_lem (retired_in es n) k ≡ None
+retired-none : (es : List Entry) (n k : ℕ) → held_in es k ≡ None → held_in (retired_in es n) k ≡ None
 retired-none [] n k h = refl
 retired-none (x ∷ es) n k h =
-    let p = miss (eqb x.number k) x (held_in_lem es k) h in
+    let p = miss (eqb x.number k) x (held_in es k) h in
     go (eqb x.number n) p (retired-none es n k p.1)
   where
-    go : (b : Bool) → (eqb x.number k ≡ false) × (held_in_lem es k ≡ None) → held_in_lem (retired_in es n) k ≡ None
-        → held_in_lem (cond b es (x ∷ retired_in es n)) k ≡ None
+    go : (b : Bool) → (eqb x.number k ≡ false) × (held_in es k ≡ None) → held_in (retired_in es n) k ≡ None
+        → held_in (cond b es (x ∷ retired_in es n)) k ≡ None
     go true p ih = p.1
-    go false p ih = cond_f (Some x) (held_in_lem (retired_in es n) k) p.0 ∙ ih
+    go false p ih = cond_f (Some x) (held_in (retired_in es n) k) p.0 ∙ ih
 
 -- ---- no number twice
 
 abbrev Distinct : List Entry → Type 0
 Distinct [] = Unit {0}
-Distinct (e ∷ es) = (held_in_lem es e.number ≡ None) × Distinct es
+Distinct (e ∷ es) = (held_in es e.number ≡ None) × Distinct es
 
-retired_own : (es : List Entry) (n : ℕ) → Distinct es → held_in_lem (retired_in es n) n ≡ None
+retired_own : (es : List Entry) (n : ℕ) → Distinct es → held_in (retired_in es n) n ≡ None
 retired_own [] n d = refl
 retired_own (x ∷ es) n d = go (eqb x.number n) refl (retired_own es n d.1)
   where
-    go : (b : Bool) → eqb x.number n ≡ b → held_in_lem (retired_in es n) n ≡ None → held_in_lem (cond b es (x ∷ retired_in es n)) n ≡ None
-    go true t ih = subst (λ (k : ℕ). held_in_lem es k ≡ None) (eqb-true x.number n t) d.0
-    go false t ih = cond_f (Some x) (held_in_lem (retired_in es n) n) t ∙ ih
+    go : (b : Bool) → eqb x.number n ≡ b → held_in (retired_in es n) n ≡ None → held_in (cond b es (x ∷ retired_in es n)) n ≡ None
+    go true t ih = subst (λ (k : ℕ). held_in es k ≡ None) (eqb-true x.number n t) d.0
+    go false t ih = cond_f (Some x) (held_in (retired_in es n) n) t ∙ ih
 
 -- each entry is held under its own number
-still_own : (x : Entry) (es : List Entry) (e : Entry) → held_in_lem es x.number ≡ None → held_in_lem es e.number ≡ Some e
-    → held_in_lem (x ∷ es) e.number ≡ Some e
+still_own : (x : Entry) (es : List Entry) (e : Entry) → held_in es x.number ≡ None → held_in es e.number ≡ Some e
+    → held_in (x ∷ es) e.number ≡ Some e
 still_own x es e h q = go (eqb x.number e.number) refl
   where
-    go : (b : Bool) → eqb x.number e.number ≡ b → cond b (Some x) (held_in_lem es e.number) ≡ Some e
+    go : (b : Bool) → eqb x.number e.number ≡ b → cond b (Some x) (held_in es e.number) ≡ Some e
     go true t =
-        let k : held_in_lem es e.number ≡ None = subst (λ (k : ℕ). held_in_lem es k ≡ None) (eqb-true x.number e.number t) h in
+        let k : held_in es e.number ≡ None = subst (λ (k : ℕ). held_in es k ≡ None) (eqb-true x.number e.number t) h in
         no_way (cc)
     go false t = q
 
-all_own : (x : Entry) (es fs : List Entry) → held_in_lem es x.number ≡ None → All (λ e. held_in_lem es e.number ≡ Some e) fs
-    → All (λ e. held_in_lem (x ∷ es) e.number ≡ Some e) fs
+all_own : (x : Entry) (es fs : List Entry) → held_in es x.number ≡ None → All (λ e. held_in es e.number ≡ Some e) fs
+    → All (λ e. held_in (x ∷ es) e.number ≡ Some e) fs
 all_own x es [] h a = tt
 all_own x es (f ∷ fs) h a = (still_own x es f h a.0, all_own x es fs h a.1)
 
-own_numbers : (es : List Entry) → Distinct es → All (λ e. held_in_lem es e.number ≡ Some e) es
+own_numbers : (es : List Entry) → Distinct es → All (λ e. held_in es e.number ≡ Some e) es
 own_numbers [] d = tt
 own_numbers (x ∷ es) d =
-    (cond_t (Some x) (held_in_lem es x.number) (eq-eqb x.number x.number refl), all_own x es es d.0 (own_numbers es d.1))
+    (cond_t (Some x) (held_in es x.number) (eq-eqb x.number x.number refl), all_own x es es d.0 (own_numbers es d.1))
 
 -- the invariant of a plain book: distinct numbers, at most 16 entries
 abbrev Sound : PlainBook → Type 0
 Sound b = Distinct b.entries × (length b.entries ≤ 16)
 
-distinct_push : (es : List Entry) (e : Entry) → Distinct es → held_in_lem es e.number ≡ None → Distinct (es ++ e ∷ [])
+distinct_push : (es : List Entry) (e : Entry) → Distinct es → held_in es e.number ≡ None → Distinct (es ++ e ∷ [])
 distinct_push [] e d h = (refl, tt)
 distinct_push (x ∷ es) e d h =
-    let p = miss (eqb x.number e.number) x (held_in_lem es e.number) h in
+    let p = miss (eqb x.number e.number) x (held_in es e.number) h in
     let ne : ¬ (e.number ≡ x.number) = λ q. both_ways _ p.0 (eq-eqb x.number e.number (sym q)) in
     (push_other es e x.number (ne_eqb e.number x.number ne) ∙ d.0, distinct_push es e d.1 p.1)
 
@@ -163,11 +163,11 @@ length-narrowed (x ∷ es) n r = go (eqb x.number n) (length-narrowed es n r)
     go true ih = refl
     go false ih = ap suc ih
 
-length-retired : (es : List Entry) (n : ℕ) (e : Entry) → held_in_lem es n ≡ Some e → suc (length (retired_in es n)) ≡ length es
+length-retired : (es : List Entry) (n : ℕ) (e : Entry) → held_in es n ≡ Some e → suc (length (retired_in es n)) ≡ length es
 length-retired [] n e h = no_way (cc)
 length-retired (x ∷ es) n e h = go (eqb x.number n) (length-retired es n e) h
   where
-    go : (b : Bool) → (held_in_lem es n ≡ Some e → suc (length (retired_in es n)) ≡ length es) → cond b (Some x) (held_in_lem es n) ≡ Some e
+    go : (b : Bool) → (held_in es n ≡ Some e → suc (length (retired_in es n)) ≡ length es) → cond b (Some x) (held_in es n) ≡ Some e
         → suc (length (cond b es (x ∷ retired_in es n))) ≡ suc (length es)
     go true ih q = refl
     go false ih q = ap suc (ih q)

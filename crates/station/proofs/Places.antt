@@ -3,7 +3,7 @@
 use Rattle.std.proofs.Common.{◌≡◌, ℕ, zero, suc, ◌+◌, ◌<◌, Bool, true, false, cond, eqb, ◌⊎◌, List, [], ◌∷◌, ◌++◌, length, get_or, take, drop, set, is_some, Some, None, Option, refl, ap, subst, inl, inr, ⊎_elim, le_of_suc-le-suc, not-suc-le-zero, arith, eq-eqb, ne_eqb}
 use Rattle.std.specs.Option.{option_map}
 use Rattle.station.specs.declared.entry.Entry.{Entry}
-use Rattle.station.specs.Book.{held_in_lem, narrowed_in, retired_in, with_reach}
+use Rattle.station.specs.Book.{held_in, narrowed_in, retired_in, with_reach}
 use Rattle.station.specs.Items.{placed}
 
 -- what an array's reads fall back to
@@ -12,12 +12,12 @@ blank = record { number = 0; description = record { kind = 0; degree = 0; low = 
 
 pub record At (es : List Entry) (n i : ℕ) : Type 0 where
   pub within : i < length es
-  pub is_held : held_in_lem es n ≡ Some (get_or es i blank)
+  pub is_held : held_in es n ≡ Some (get_or es i blank)
   pub is_retired : retired_in es n ≡ take i es ++ drop (suc i) es
   pub is_narrowed : (r : ℕ) → narrowed_in es n r ≡ set es i (with_reach (get_or es i blank) r)
 
 pub record Off (es : List Entry) (n : ℕ) : Type 0 where
-  pub is_held : held_in_lem es n ≡ None
+  pub is_held : held_in es n ≡ None
   pub is_narrowed : (r : ℕ) → narrowed_in es n r ≡ es
 
 no_way : {A : Type 0} → ◌≡◌ {A = ℕ} 0 1 → A
@@ -78,9 +78,9 @@ miss (e ∷ es) n (suc i) l p q =
     let f = h.0 in
     rw f (ap (option_map suc) (miss es n i (le_of_suc-le-suc l) h.1 q))
 
-by_place : (es : List Entry) (n : ℕ) (o : Option ℕ) → placed es n ≡ o → is_some (held_in_lem es n) ≡ is_some o
+by_place : (es : List Entry) (n : ℕ) (o : Option ℕ) → placed es n ≡ o → is_some (held_in es n) ≡ is_some o
 by_place es n None p = ap is_some (off es n p).is_held
 by_place es n (Some i) p = ap is_some (at es n i p).is_held
 
-pub same_test : (es : List Entry) (n : ℕ) → is_some (held_in_lem es n) ≡ is_some (placed es n)
+pub same_test : (es : List Entry) (n : ℕ) → is_some (held_in es n) ≡ is_some (placed es n)
 same_test es n = by_place es n (placed es n) refl

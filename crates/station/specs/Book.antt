@@ -25,13 +25,13 @@ abbrev pub with_reach : Entry → ℕ → Entry
 with_reach e reach = entry_of e.number e.description reach
 
 -- The first entry with a number.
-abbrev pub held_in_lem : List Entry → ℕ → Option Entry
-held_in_lem [] n = None
-held_in_lem (e ∷ es) n = cond (e.number == n) (Some e) (held_in_lem es n)
+abbrev pub held_in : List Entry → ℕ → Option Entry
+held_in [] n = None
+held_in (e ∷ es) n = cond (e.number == n) (Some e) (held_in es n)
 
 -- What a book holds under a number.
 abbrev pub held : PlainBook → ℕ → Option Entry
-held b n = held_in_lem b.entries n
+held b n = held_in b.entries n
 
 -- The book with one entry more, at the end.
 abbrev pub entered : PlainBook → Entry → PlainBook

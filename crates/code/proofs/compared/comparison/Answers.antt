@@ -9,7 +9,7 @@ returns c = record {
   matching = joined_matches;
   same = joined_means_the_same;
   crc = crc_matches;
-  crc-same = crc_means_the_same;
+  crc_same = crc_means_the_same;
   parity = parity_matches;
-  parity-same = parity_means_the_same;
+  parity_same = parity_means_the_same;
 }

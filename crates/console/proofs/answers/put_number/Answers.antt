@@ -9,11 +9,11 @@ pub returns : goal.returns
 returns c =
     let n = c.args.number in
     let k = c.args.answer in
-    let last = c.put-decimal-2.ensures.items ∙ ap (λ x. vec_items c.put-byte.new.out ++ decimal x) c.from.ensures in
+    let last = c.put_decimal-2.ensures.items ∙ ap (λ x. vec_items c.put_byte.new.out ++ decimal x) c.from.ensures in
     record {
       items =
-          after (vec_items c.args.out.now) (decimal n) (32 ∷ decimal k) c.put-decimal.ensures.items
-          (after (vec_items c.put-decimal.new.out) (32 ∷ []) (decimal k) c.put-byte.ensures.items last);
+          after (vec_items c.args.out.now) (decimal n) (32 ∷ decimal k) c.put_decimal.ensures.items
+          (after (vec_items c.put_decimal.new.out) (32 ∷ []) (decimal k) c.put_byte.ensures.items last);
       bound = omega arith;
       capacity = omega arith;
     }

@@ -5,4 +5,4 @@ use Rattle.console.proofs.Puts.{whole}
 use Rattle.console.proofs.answers.put_success.Goals as goal
 
 pub returns : goal.returns
-returns c = whole (vec_items c.args.out.now) c.args.number 0 [] c.put-number.ensures.items c.put-byte.ensures.items
+returns c = whole (vec_items c.args.out.now) c.args.number 0 [] c.put_number.ensures.items c.put_byte.ensures.items

@@ -9,7 +9,7 @@ loop-i-preserved c =
     let l = c.loop-i in (
       length-set l.buffer l.i _ ∙ l.invariant.0,
       turn c.args.digits.now l.buffer l.i _ (omega arith) (omega arith)
-          (ap₂ (λ a b. 16 * a + b) c.digit-value.ensures.value c.digit-value-in-loop-i.ensures.value) l.invariant.1,
+          (ap₂ (λ a b. 16 * a + b) c.digit_value.ensures.value c.digit_value-in-loop-i.ensures.value) l.invariant.1,
     )
 
 pub returns : goal.returns

@@ -5,9 +5,9 @@ use Rattle.std.proofs.lemmas.List.{drop_all}
 use Rattle.console.proofs.Fronts.{stop, more}
 use Rattle.console.proofs.line.digits_at_start.Goals as goal
 
-pub returns-then-not-is-digit : goal.returns-then-not-is-digit
-returns-then-not-is-digit c =
-    let e = stop c.args.bytes.now c.loop-i.i (omega arith) (sym c.if-not-is-digit.ensures) in
+pub returns-then-not-is_digit : goal.returns-then-not-is_digit
+returns-then-not-is_digit c =
+    let e = stop c.args.bytes.now c.loop-i.i (omega arith) (sym c.if-not-is_digit.ensures) in
     record { value = omega arith; bound = omega arith }
 
 pub loop-i-preserved : goal.loop-i-preserved

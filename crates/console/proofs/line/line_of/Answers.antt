@@ -6,6 +6,6 @@ use Rattle.console.proofs.line.line_of.Goals as goal
 
 pub returns-in-32 : goal.returns-in-32
 returns-in-32 c = record {
-  line = c.command-of.ensures.line ∙ rw (take_rest c.args.line.now 2) (search rules);
-  sized = c.command-of.ensures.sized;
+  line = c.command_of.ensures.line ∙ rw (take_rest c.args.line.now 2) (search rules);
+  sized = c.command_of.ensures.sized;
 }

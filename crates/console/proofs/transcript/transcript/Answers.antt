@@ -4,4 +4,4 @@ use Rattle.console.proofs.Pledged.{lines_promise}
 use Rattle.console.proofs.transcript.transcript.Goals as goal
 
 pub returns : goal.returns
-returns g c = record { printed = c.all-printed.ensures.printed; needs = c.all-printed.ensures.needs; promises = lines_promise }
+returns g c = record { printed = c.all_printed.ensures.printed; needs = c.all_printed.ensures.needs; promises = lines_promise }

@@ -10,11 +10,11 @@ returns g c =
     let x = c.args.engine.now in
     let y = c.clear.new.self in
     let cleared = c.clear.ensures in
-    let fed = c.feed-all.ensures in
+    let fed = c.feed_all.ensures in
     record {
       answer =
           c.value.ensures
-          ∙ fed_message (e.degree_of x) (e.low_of x) (e.degree_of y) (e.low_of y) (e.register_of y) (e.register_of c.feed-all.new.self)
+          ∙ fed_message (e.degree_of x) (e.low_of x) (e.degree_of y) (e.low_of y) (e.register_of y) (e.register_of c.feed_all.new.self)
           c.args.message.now (g.met.E.Engine.sound y).small cleared.degree cleared.low cleared.register fed.register;
       degree = fed.degree ∙ cleared.degree;
       low = fed.low ∙ cleared.low;

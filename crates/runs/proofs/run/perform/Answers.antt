@@ -15,11 +15,11 @@ returns-in-ok-copy g c =
     let b = items c.args.station.now.book in
     let s = c.seal-answer in
     let copy = c.in-ok-copy.copy in
-    let same = c.as-mut-slice.ensures.value ∙ c.in-ok-copy.ensures.items-if-clones-equal (λ x y h. h) in
+    let same = c.as_mut_slice.ensures.value ∙ c.in-ok-copy.ensures.items-if-clones-equal (λ x y h. h) in
     let long : length s.new.out ≡ copy.len = search rules in
     record {
       answer =
-          wrote_copy a b c.in-Seal.number c.in-Seal.message.now c.in-Seal.out.now c.as-mut-slice.result.now s.new.out
+          wrote_copy a b c.in-Seal.number c.in-Seal.message.now c.in-Seal.out.now c.as_mut_slice.result.now s.new.out
           (drop (length s.new.out) copy.items) (read s.result) copy.len same long s.ensures.answer s.ensures.written
           ∙ ap (λ k. answer a b (plain_call k)) (sym c.in-Seal.is);
       needs = λ _. refl;
@@ -33,11 +33,11 @@ returns-in-ok-copy-2 g c =
     let b = items c.args.station.now.book in
     let s = c.trial-answer in
     let copy = c.in-ok-copy-2.copy in
-    let same = c.as-mut-slice-in-Trial.ensures.value ∙ c.in-ok-copy-2.ensures.items-if-clones-equal (λ x y h. h) in
+    let same = c.as_mut_slice-in-Trial.ensures.value ∙ c.in-ok-copy-2.ensures.items-if-clones-equal (λ x y h. h) in
     let long : length s.new.frame ≡ copy.len = search rules in
     record {
       answer =
-          tried_copy a b c.in-Trial.frame.now c.as-mut-slice-in-Trial.result.now s.new.frame c.in-Trial.at c.in-Trial.byte
+          tried_copy a b c.in-Trial.frame.now c.as_mut_slice-in-Trial.result.now s.new.frame c.in-Trial.at c.in-Trial.byte
           (drop (length s.new.frame) copy.items) (read s.result) copy.len same long s.ensures.answer s.ensures.back
           ∙ ap (λ k. answer a b (plain_call k)) (sym c.in-Trial.is);
       needs = λ _. refl;

@@ -14,9 +14,9 @@ returns c low small tables =
     ap₂ bit_xor
     (ap₂ bit_xor
     (ap₂ bit_xor
-    (c.look-up-bytes.ensures low 96 small (at 11 (lit< tt)) (at 10 (lit< tt)) (at 9 (lit< tt)) (at 8 (lit< tt)))
-    (c.look-up-bytes-2.ensures low 64 small (at 7 (lit< tt)) (at 6 (lit< tt)) (at 5 (lit< tt)) (at 4 (lit< tt))))
-    (c.look-up-bytes-3.ensures low 32 small (at 3 (lit< tt)) (at 2 (lit< tt)) (at 1 (lit< tt)) (at 0 (lit< tt))))
-    (c.look-up-word.ensures low 128 small (at 15 (lit< tt)) (at 14 (lit< tt)) (at 13 (lit< tt)) (at 12 (lit< tt))
+    (c.look_up_bytes.ensures low 96 small (at 11 (lit< tt)) (at 10 (lit< tt)) (at 9 (lit< tt)) (at 8 (lit< tt)))
+    (c.look_up_bytes-2.ensures low 64 small (at 7 (lit< tt)) (at 6 (lit< tt)) (at 5 (lit< tt)) (at 4 (lit< tt))))
+    (c.look_up_bytes-3.ensures low 32 small (at 3 (lit< tt)) (at 2 (lit< tt)) (at 1 (lit< tt)) (at 0 (lit< tt))))
+    (c.look_up_word.ensures low 128 small (at 15 (lit< tt)) (at 14 (lit< tt)) (at 13 (lit< tt)) (at 12 (lit< tt))
     ∙ ap (λ w. rem 32 low (bit_xor w c.args.register * 2 ^ 128)) c.word.ensures)
     ∙ sym (sixteen-fed low small c.args.register c.args.b.now c.ranges.register.fits (omega arith))

@@ -6,5 +6,5 @@ use Rattle.slicing.proofs.blocks.feed_byte.Goals as goal
 
 pub returns : goal.returns
 returns c low small e =
-    looked_up_lem 32 low small (lit≤ tt) c.args.table.now e c.args.register c.args.q c.top-index-top.result _
-    c.ranges.register.fits c.ranges.q.fits c.top-index-top.ensures.index refl
+    looked_up_lem 32 low small (lit≤ tt) c.args.table.now e c.args.register c.args.q c.top_index-top.result _
+    c.ranges.register.fits c.ranges.q.fits c.top_index-top.ensures.index refl

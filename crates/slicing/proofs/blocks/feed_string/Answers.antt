@@ -11,10 +11,10 @@ pub loop-block-preserved : goal.loop-block-preserved
 loop-block-preserved c low small tables =
     let bytes = c.args.bytes.now in
     let i = c.loop-block.block-index in
-    chunk_more 32 low c.args.register 16 bytes i c.loop-block.r c.feed-block-r.result (c.loop-block.invariant low small tables)
-    (c.feed-block-r.ensures low small tables
+    chunk_more 32 low c.args.register 16 bytes i c.loop-block.r c.feed_block-r.result (c.loop-block.invariant low small tables)
+    (c.feed_block-r.ensures low small tables
     ∙ ap (fed_all 32 low c.loop-block.r)
-    (ap (λ (ws : List (List ℕ)). get_or ws i []) c.as-chunks.ensures.front ∙ chunk_at 16 (length bytes / 16) bytes i (omega arith)))
+    (ap (λ (ws : List (List ℕ)). get_or ws i []) c.as_chunks.ensures.front ∙ chunk_at 16 (length bytes / 16) bytes i (omega arith)))
 
 pub loop-b-init : goal.loop-b-init
 loop-b-init c low small tables =
@@ -26,8 +26,8 @@ loop-b-init c low small tables =
 pub loop-b-preserved : goal.loop-b-preserved
 loop-b-preserved c low small tables =
     let bytes = c.args.bytes.now in
-    byte_more 32 low c.args.register (take (length bytes / 16 * 16) bytes) c.as-chunks.result.1.now c.loop-b.b-index c.loop-b.r
-    c.feed-byte-r.result (omega arith) (c.loop-b.invariant low small tables) (c.feed-byte-r.ensures low small (table_of low 16 c.args.t.now tables 0 (lit< tt)))
+    byte_more 32 low c.args.register (take (length bytes / 16 * 16) bytes) c.as_chunks.result.1.now c.loop-b.b-index c.loop-b.r
+    c.feed_byte-r.result (omega arith) (c.loop-b.invariant low small tables) (c.feed_byte-r.ensures low small (table_of low 16 c.args.t.now tables 0 (lit< tt)))
 
 pub returns : goal.returns
 returns c low small tables =
@@ -35,5 +35,5 @@ returns c low small tables =
     let front = take (length bytes / 16 * 16) bytes in
     c.loop-b.invariant low small tables
     ∙ ap (fed_all 32 low c.args.register)
-    (ap (λ (ys : List ℕ). front ++ ys) (take_all c.loop-b.b-index c.as-chunks.result.1.now (omega arith) ∙ c.as-chunks.ensures.back)
+    (ap (λ (ys : List ℕ). front ++ ys) (take_all c.loop-b.b-index c.as_chunks.result.1.now (omega arith) ∙ c.as_chunks.ensures.back)
     ∙ take-append-drop (length bytes / 16 * 16) bytes)

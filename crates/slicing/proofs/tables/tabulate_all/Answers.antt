@@ -23,10 +23,10 @@ loop-table-preserved c =
     let i = c.loop-table.invariant in
     let low = g.low * 2 ^ (32 - g.degree) in
     let e : g.degree + 8 * j + (32 - g.degree) ≡ 32 + 8 * j = omega (arith, g.ok.1) in
-    let table = c.tabulate-at-top-first.new.entries in (
-      first_more g.degree g.low g.ok.2 (g.degree + 8 * j) (g.degree + 8 * (j + 1)) c.loop-table.first c.tabulate-at-top-first.result
-          (omega arith) i.0 c.tabulate-at-top-first.ensures.next,
+    let table = c.tabulate_at_top-first.new.entries in (
+      first_more g.degree g.low g.ok.2 (g.degree + 8 * j) (g.degree + 8 * (j + 1)) c.loop-table.first c.tabulate_at_top-first.result
+          (omega arith) i.0 c.tabulate_at_top-first.ensures.next,
       simp length-set i.1,
       tables_more low c.loop-table.tables j table (omega arith) i.2
-          (subst (λ k. Entries 32 low k table) e (c.tabulate-at-top-first.ensures.entries (g.degree + 8 * j) i.0)),
+          (subst (λ k. Entries 32 low k table) e (c.tabulate_at_top-first.ensures.entries (g.degree + 8 * j) i.0)),
     )

@@ -9,8 +9,8 @@ use Rattle.station.proofs.ccitt.ccitt_of.Goals as goal
 
 pub loop-b-preserved : goal.loop-b-preserved
 loop-b-preserved c =
-    fed_all_more 16 0x1021 0 c.args.bytes.now c.loop-b.b-index 16 0x1021 c.loop-b.register c.look-up-register.result (omega arith)
-    c.loop-b.invariant refl refl c.look-up-register.ensures
+    fed_all_more 16 0x1021 0 c.args.bytes.now c.loop-b.b-index 16 0x1021 c.loop-b.register c.look_up-register.result (omega arith)
+    c.loop-b.invariant refl refl c.look_up-register.ensures
 
 pub returns : goal.returns
 unfolding ccitt

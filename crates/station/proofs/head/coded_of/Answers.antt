@@ -10,6 +10,6 @@ returns c =
     let d = c.args.d in
     let l : d.low < 2 ^ 32 = search rules in
     let l2 : d.low2 < 2 ^ 16 = search rules in
-    let a : c.to-be-bytes.result ≡ digits 4 d.low = c.to-be-bytes.ensures ∙ four d.low l in
-    let b : c.to-be-bytes-2.result ≡ digits 2 d.low2 = c.to-be-bytes-2.ensures ∙ two d.low2 l2 in
+    let a : c.to_be_bytes.result ≡ digits 4 d.low = c.to_be_bytes.ensures ∙ four d.low l in
+    let b : c.to_be_bytes-2.result ≡ digits 2 d.low2 = c.to_be_bytes-2.ensures ∙ two d.low2 l2 in
     rw (a, b) refl

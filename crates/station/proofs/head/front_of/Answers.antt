@@ -8,6 +8,6 @@ use Rattle.station.proofs.head.front_of.Goals as goal
 
 pub returns : goal.returns
 returns c =
-    let a : c.coded-of.result ≡ coded c.args.d = c.coded-of.ensures in
-    let b : c.to-be-bytes.result ≡ digits 2 c.args.word = c.to-be-bytes.ensures ∙ two c.args.word c.ranges.word.fits in
+    let a : c.coded_of.result ≡ coded c.args.d = c.coded_of.ensures in
+    let b : c.to_be_bytes.result ≡ digits 2 c.args.word = c.to_be_bytes.ensures ∙ two c.args.word c.ranges.word.fits in
     rw (a, b) refl

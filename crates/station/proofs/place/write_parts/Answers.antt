@@ -9,6 +9,6 @@ returns c =
     record {
       end = refl;
       out =
-          simp (c.copy-from-slice.ensures.after, c.copy-from-slice-2.ensures.after, c.copy-from-slice-3.ensures.after)
+          simp (c.copy_from_slice.ensures.after, c.copy_from_slice-2.ensures.after, c.copy_from_slice-3.ensures.after)
           (three c.args.out.now c.args.head.now c.args.message.now c.args.check.now);
     }

@@ -33,11 +33,11 @@ returns g c =
     let same : m c.sheet.new.self ≡ m c.args.bank.now = c.sheet.ensures.same in
     let all =
     sealed-frame a e c.args.number message (length out) c.in-ok-s.s check c.in-ok-s.ensures.answer
-    c.in-ok-whole-message.ensures c.in-ok-within-reach.ensures c.in-ok-within-room.ensures
+    c.in-ok-whole_message.ensures c.in-ok-within_reach.ensures c.in-ok-within_room.ensures
     (c.in-ok-check.ensures.answer ∙ ap (λ k. (asked k).check e.description message 64) same)
-    c.in-ok-check-fits.ensures in
+    c.in-ok-check_fits.ensures in
     record {
-      answer = ap {B = Result ℕ Refusal} (λ k. Ok k) c.write-frame.ensures.long ∙ sym (ap length_of all);
-      written = c.write-frame.ensures.out ∙ sym (ap (λ x. written x out) all);
-      same = c.check-of.ensures.same ∙ same;
+      answer = ap {B = Result ℕ Refusal} (λ k. Ok k) c.write_frame.ensures.long ∙ sym (ap length_of all);
+      written = c.write_frame.ensures.out ∙ sym (ap (λ x. written x out) all);
+      same = c.check_of.ensures.same ∙ same;
     }

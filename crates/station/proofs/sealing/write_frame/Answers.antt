@@ -10,12 +10,12 @@ returns c =
     let t = c.args.check.now in
     let out = c.args.out.now in
     let h = head c.args.number c.args.d (length s + length t) in
-    let first = c.head-of-head.result in
-    let is : first ≡ h = c.head-of-head.ensures in
+    let first = c.head_of-head.result in
+    let is : first ≡ h = c.head_of-head.ensures in
     let long : length first + length s + length t ≡ length (h ++ (s ++ t)) =
     ap (λ l. length l + length s + length t) is ∙ omega (arith, length-append s t) in
-    let end = c.write-parts.ensures.end ∙ long in
+    let end = c.write_parts.ensures.end ∙ long in
     record {
       long = end;
-      out = c.write-parts.ensures.out ∙ ap (λ l. (l ++ (s ++ t)) ++ drop c.write-parts.result out) is ∙ ap (λ k. (h ++ (s ++ t)) ++ drop k out) end;
+      out = c.write_parts.ensures.out ∙ ap (λ l. (l ++ (s ++ t)) ++ drop c.write_parts.result out) is ∙ ap (λ k. (h ++ (s ++ t)) ++ drop k out) end;
     }

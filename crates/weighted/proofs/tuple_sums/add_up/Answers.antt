@@ -21,8 +21,8 @@ loop-at-init c =
       plain-none c.args.tuple c.args.message.now,
     )
 
-pub number-at-q-requires : goal.number-at-q-requires
-number-at-q-requires c = (
+pub number_at-q-requires : goal.number_at-q-requires
+number_at-q-requires c = (
   c.requires.0,
   tuple_fits c.args.tuple c.loop-at.at c.args.message.now (sized c.args.tuple c.requires.0).0 c.loop-at.invariant.1
       c.requires.1.1 c.loop-at-test.true,
@@ -50,16 +50,16 @@ loop-at-preserved c =
     let message = c.args.message.now in
     let h : ℕ = c.degree-degree.result in
     let low : ℕ = c.low-low.result in
-    let q : ℕ = c.number-at-q.result in
+    let q : ℕ = c.number_at-q.result in
     let i = c.loop-at.invariant in
     let s1 = (sized s c.requires.0).0 in
     let small : low < 2 ^ h = low_fits g.degree g.low h low c.degree-degree.ensures c.low-low.ensures g.ok.2 in
-    let lq : q < 2 ^ h = subst (λ n. q < 2 ^ n) (sym (c.degree-degree.ensures ∙ c.requires.1.0)) c.number-at-q.ensures.below in (
+    let lq : q < 2 ^ h = subst (λ n. q < 2 ^ n) (sym (c.degree-degree.ensures ∙ c.requires.1.0)) c.number_at-q.ensures.below in (
       tuple_fits s at message s1 i.1 c.requires.1.1 c.loop-at-test.true,
       whole_more s at message s1 i.1,
       weighted_more s at message s1 i.1 h low c.loop-at.horner q c.step-horner.result small lq i.2
-          c.number-at-q.ensures.number c.step-horner.ensures,
-      plain_more s at message s1 i.1 c.loop-at.total q i.3 c.number-at-q.ensures.number,
+          c.number_at-q.ensures.number c.step-horner.ensures,
+      plain_more s at message s1 i.1 c.loop-at.total q i.3 c.number_at-q.ensures.number,
     )
 
 pub returns : goal.returns

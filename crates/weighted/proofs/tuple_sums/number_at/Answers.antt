@@ -26,10 +26,10 @@ returns-in-2 c =
     let e = c.in-2.is in
     record {
       number =
-          c.from-in-2.ensures ∙ c.from-be-bytes.ensures
+          c.from-in-2.ensures ∙ c.from_be_bytes.ensures
           ∙ sym (two_bytes c.args.bytes.now c.args.at (λ k. (c.type-inv.bytes k).fits) (omega arith))
           ∙ ap (λ n. string 8 (take n (drop c.args.at c.args.bytes.now))) (sym e);
-      below = subst (λ n. c.from-in-2.result < 2 ^ (8 * n)) (sym e) (omega (arith, c.from-in-2.ensures, c.from-be-bytes.type-inv));
+      below = subst (λ n. c.from-in-2.result < 2 ^ (8 * n)) (sym e) (omega (arith, c.from-in-2.ensures, c.from_be_bytes.type-inv));
     }
 
 pub returns-in-default : goal.returns-in-default
@@ -37,8 +37,8 @@ returns-in-default c =
     let e : c.args.count ≡ 4 = four c.args.count c.requires.0 (λ one. omega arith) (λ two. omega arith) in
     record {
       number =
-          c.from-be-bytes-in-default.ensures
+          c.from_be_bytes-in-default.ensures
           ∙ sym (four_bytes c.args.bytes.now c.args.at (λ k. (c.type-inv.bytes k).fits) (omega arith))
           ∙ ap (λ n. string 8 (take n (drop c.args.at c.args.bytes.now))) (sym e);
-      below = subst (λ n. c.from-be-bytes-in-default.result < 2 ^ (8 * n)) (sym e) c.from-be-bytes-in-default.type-inv;
+      below = subst (λ n. c.from_be_bytes-in-default.result < 2 ^ (8 * n)) (sym e) c.from_be_bytes-in-default.type-inv;
     }

@@ -14,10 +14,10 @@ returns c =
     let s : ℕ = c.from.result in
     let message = c.args.message.now in
     let qs : List ℕ = tuples s message in
-    let e = first_is d qs g.first.degree g.first.low k.degree k.low g.first.ok.2 c.add-up-sums.result.horner
-    c.remainder-first.result c.add-up-sums.ensures.horner c.remainder-first.ensures in
+    let e = first_is d qs g.first.degree g.first.low k.degree k.low g.first.ok.2 c.add_up-sums.result.horner
+    c.remainder-first.result c.add_up-sums.ensures.horner c.remainder-first.ensures in
     let f = second_is d qs g.first.degree g.first.low k.degree k.low g.second.degree g.second.low k.degree2 k.low2
-    c.add-up-sums.result.total c.remainder-first.result c.remainder-second.result c.add-up-sums.ensures.total e
+    c.add_up-sums.result.total c.remainder-first.result c.remainder-second.result c.add_up-sums.ensures.total e
     c.remainder-second.ensures in
     record {
       first = e ∙ ap (λ n. first_sum d (tuples n message)) c.from.ensures;

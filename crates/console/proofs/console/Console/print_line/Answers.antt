@@ -17,8 +17,8 @@ returns-in-Ok-Message g c =
     let e : ◌≡◌ {A = Result PlainLine Refusal} (Ok (message d)) (line_of line) = search rules in
     record {
       printed =
-          sealing a c.args.number b line d (vec_items c.args.out.now) (vec_items c.put-bytes.new.out) (seen c.seal.result) e
-          c.put-bytes.ensures c.seal.ensures.answer;
+          sealing a c.args.number b line d (vec_items c.args.out.now) (vec_items c.put_bytes.new.out) (seen c.seal.result) e
+          c.put_bytes.ensures c.seal.ensures.answer;
       book = keeping a b (items c.seal.new.station.book) line d e (ap items c.seal.ensures.book);
       bank = c.seal.ensures.bank;
     }

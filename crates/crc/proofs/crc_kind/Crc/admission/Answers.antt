@@ -22,13 +22,13 @@ returns-in-err-fit g c =
       carries = c.fit.ensures.carries;
     })
 
-pub returns-in-err-crc-reaches : goal.returns-in-err-crc-reaches
-returns-in-err-crc-reaches g c =
+pub returns-in-err-crc_reaches : goal.returns-in-err-crc_reaches
+returns-in-err-crc_reaches g c =
     let m = crc_model (g.E.Engine.carries_of c.args.self.now.engine) in
-    let p = err_from_is_err_and c.from-residual-in-err-crc-reaches.result c.from-residual-in-err-crc-reaches.ensures.1 in
+    let p = err_from_is_err_and c.from-residual-in-err-crc_reaches.result c.from-residual-in-err-crc_reaches.ensures.1 in
     rw (p.1, p.2)
     (record {
-      answer = admit_then m c.args.d c.args.reach (Err (refusal_of c.in-err-crc-reaches.field-0.0)) c.in-ok-fit.ensures.answer c.in-err-crc-reaches.ensures;
+      answer = admit_then m c.args.d c.args.reach (Err (refusal_of c.in-err-crc_reaches.field-0.0)) c.in-ok-fit.ensures.answer c.in-err-crc_reaches.ensures;
       description = tt;
       reach = tt;
       carries = c.fit.ensures.carries;
@@ -39,4 +39,4 @@ invariant-of-result g c =
     let d = c.args.d in
     let carries = g.E.Engine.carries_of c.args.self.now.engine in
     let f = fit_of carries d (kept tt (described_rules (crc_model carries) d) (sym c.in-ok-fit.ensures.answer)) in
-    (f.small, (f.constant, (far_of d c.args.reach (kept tt (crc_reaches d c.args.reach) (sym c.in-ok-crc-reaches.ensures)), tt)))
+    (f.small, (f.constant, (far_of d c.args.reach (kept tt (crc_reaches d c.args.reach) (sym c.in-ok-crc_reaches.ensures)), tt)))

@@ -37,7 +37,7 @@ returns-in-err-fitting g c =
     let message = c.args.message.now in
     let out = c.args.out.now in
     let f : Err z ≡ success (fit_rules 1 (check_bytes c.args.d.degree) message (length out)) =
-    subst (λ i. Err z ≡ success (fit_rules 1 i message (length out))) c.check-bytes-count.ensures c.in-err-fitting.ensures in
+    subst (λ i. Err z ≡ success (fit_rules 1 i message (length out))) c.check_bytes-count.ensures c.in-err-fitting.ensures in
     let u = check_unfit m c.args.d message (length out) z c.in-ok-fit.ensures.answer f in
     rw (p.1, p.2)
     (record {
@@ -55,14 +55,14 @@ returns g c =
     let out = c.args.out.now in
     let x = c.fit.new.self.engine in
     let set = c.in-ok-fit.ensures in
-    let n : c.from-size.result ≡ check_bytes d.degree = c.from-size.ensures ∙ c.check-bytes-count.ensures in
+    let n : c.from-size.result ≡ check_bytes d.degree = c.from-size.ensures ∙ c.check_bytes-count.ensures in
     let f : Ok tt ≡ success (fit_rules 1 (check_bytes d.degree) message (length out)) =
-    subst (λ i. Ok tt ≡ success (fit_rules 1 i message (length out))) c.check-bytes-count.ensures c.in-ok-fitting.ensures in
+    subst (λ i. Ok tt ≡ success (fit_rules 1 i message (length out))) c.check_bytes-count.ensures c.in-ok-fitting.ensures in
     let k = check_made m d message (length out) set.answer f in
     let v : c.value.result ≡ remainder d.degree d.low message =
     c.value.ensures
-    ∙ fed_message d.degree d.low (e.degree_of x) (e.low_of x) (e.register_of x) (e.register_of c.feed-all.new.self) message
-    (g.met.E.Engine.sound x).small set.degree set.low set.register c.feed-all.ensures.register in
+    ∙ fed_message d.degree d.low (e.degree_of x) (e.low_of x) (e.register_of x) (e.register_of c.feed_all.new.self) message
+    (g.met.E.Engine.sound x).small set.degree set.low set.register c.feed_all.ensures.register in
     let fits = fit_of (e.carries_of c.args.self.now.engine) d (kept tt (described_rules m d) (sym set.answer)) in
     let room = leb-true (check_bytes d.degree) (length out) (kept tt (fit_rules 1 (check_bytes d.degree) message (length out)) (sym f)).1.0 in
     record {
@@ -74,5 +74,5 @@ returns g c =
           ∙ put_start out c.from-size.result c.value.result (check_bytes d.degree) (remainder d.degree d.low message) n v
           (omega (arith, fits.degree.most)) room (crc-lt d.degree d.low (check_bytes d.degree) fits.small fits.degree.bits message)
           ∙ sym (ap (λ y. written y out) k);
-      carries = c.feed-all.ensures.carries ∙ c.fit.ensures.carries;
+      carries = c.feed_all.ensures.carries ∙ c.fit.ensures.carries;
     }

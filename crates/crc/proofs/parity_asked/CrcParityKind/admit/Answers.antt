@@ -21,6 +21,6 @@ pub returns : goal.returns
 returns g c =
     let m = parity_model (g.E.Engine.carries_of c.args.self.now.engine) in
     record {
-      answer = admit_then m c.args.d c.args.reach (read c.crc-reaches.result) c.in-ok-fit.ensures.answer c.crc-reaches.ensures;
+      answer = admit_then m c.args.d c.args.reach (read c.crc_reaches.result) c.in-ok-fit.ensures.answer c.crc_reaches.ensures;
       same = ap parity_model c.fit.ensures.carries;
     }

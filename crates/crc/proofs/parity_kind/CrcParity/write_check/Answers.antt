@@ -41,7 +41,7 @@ returns-in-err-fitting g c =
     let message = c.args.message.now in
     let out = c.args.out.now in
     let f : Err z ≡ success (fit_rules 1 (check_bytes c.args.d.degree) message (length out)) =
-    subst (λ i. Err z ≡ success (fit_rules 1 i message (length out))) c.check-bytes-count.ensures c.in-err-fitting.ensures in
+    subst (λ i. Err z ≡ success (fit_rules 1 i message (length out))) c.check_bytes-count.ensures c.in-err-fitting.ensures in
     let u = check_unfit m c.args.d message (length out) z c.in-ok-fit.ensures.answer f in
     rw (p.1, p.2)
     (record {
@@ -59,16 +59,16 @@ returns g c =
     let out = c.args.out.now in
     let x = c.fit.new.self.engine in
     let set = c.in-ok-fit.ensures in
-    let n : c.from-size.result ≡ check_bytes d.degree = c.from-size.ensures ∙ c.check-bytes-count.ensures in
+    let n : c.from-size.result ≡ check_bytes d.degree = c.from-size.ensures ∙ c.check_bytes-count.ensures in
     let f : Ok tt ≡ success (fit_rules 1 (check_bytes d.degree) message (length out)) =
-    subst (λ i. Ok tt ≡ success (fit_rules 1 i message (length out))) c.check-bytes-count.ensures c.in-ok-fitting.ensures in
+    subst (λ i. Ok tt ≡ success (fit_rules 1 i message (length out))) c.check_bytes-count.ensures c.in-ok-fitting.ensures in
     let k = check_made m d message (length out) set.answer f in
     let r₀ : c.value.result ≡ remainder d.degree d.low message =
     c.value.ensures
-    ∙ fed_message d.degree d.low (e.degree_of x) (e.low_of x) (e.register_of x) (e.register_of c.feed-all.new.self) message
-    (g.met.E.Engine.sound x).small set.degree set.low set.register c.feed-all.ensures.register in
-    let v : c.with-parity.result ≡ checked d message =
-    c.with-parity.ensures ∙ ap (λ y. y * 2 + (ones (polynomial message) + ones y) % 2) r₀
+    ∙ fed_message d.degree d.low (e.degree_of x) (e.low_of x) (e.register_of x) (e.register_of c.feed_all.new.self) message
+    (g.met.E.Engine.sound x).small set.degree set.low set.register c.feed_all.ensures.register in
+    let v : c.with_parity.result ≡ checked d message =
+    c.with_parity.ensures ∙ ap (λ y. y * 2 + (ones (polynomial message) + ones y) % 2) r₀
     ∙ ap (λ y. remainder d.degree d.low message * 2 + y) (sym (even-bit d.degree d.low message)) in
     let rules = kept tt (described_rules m d) (sym set.answer) in
     let carried = rule (e.carries_of c.args.self.now.engine d.degree d.low) (refusal 15 Engine 4) ∷ [] in
@@ -80,8 +80,8 @@ returns g c =
           ∙ sym (ap length_of k);
       written =
           c.put.ensures
-          ∙ put_start out c.from-size.result c.with-parity.result (check_bytes d.degree) (checked d message) n v
+          ∙ put_start out c.from-size.result c.with_parity.result (check_bytes d.degree) (checked d message) n v
           (omega (arith, fits.degree.most)) room (check_lt d message fits)
           ∙ sym (ap (λ y. written y out) k);
-      carries = c.feed-all.ensures.carries ∙ c.fit.ensures.carries;
+      carries = c.feed_all.ensures.carries ∙ c.fit.ensures.carries;
     }

@@ -43,6 +43,6 @@ returns c =
     let long : length (weighted_model.check d message) ≡ 2 * d.tuple = check_long d (fit d (kept tt (described_rules weighted_model d) (sym ok)).1) message in
     record {
       answer = ap {B = Result ℕ Refusal} (λ n. Ok n) (ap (λ n. 2 * n) c.from.ensures ∙ sym long) ∙ ap length_of (sym e);
-      written = c.write-check.ensures ∙ ap (λ n. weighted_model.check d message ++ drop n out) (sym long) ∙ ap (λ x. written x out) (sym e);
+      written = c.write_check.ensures ∙ ap (λ n. weighted_model.check d message ++ drop n out) (sym long) ∙ ap (λ x. written x out) (sym e);
       same = refl;
     }
