@@ -22,9 +22,9 @@ pub(crate) fn enter<K: Kind>(
     input: &mut [u8; LONGEST],
 ) -> Result<(), Fault>
     requires { length digits.now ≡ 26 }
-    ensures answer { done (read result) ≡ answer (asked (model station.old.bank)) (items station.old.book) (enters_by (decoded digits.now)) }
-    ensures book { items station.new.book ≡ step (asked (model station.old.bank)) (items station.old.book) (enters_by (decoded digits.now)) }
-    ensures bank { model station.new.bank ≡ model station.old.bank }
+    ensures answer { done (read result) ≡ answer (asked (K.model station.old.bank)) (items station.old.book) (enters_by (decoded digits.now)) }
+    ensures book { items station.new.book ≡ step (asked (K.model station.old.bank)) (items station.old.book) (enters_by (decoded digits.now)) }
+    ensures bank { K.model station.new.bank ≡ K.model station.old.bank }
 {
     let n = decode(digits, input);
     let Entry {
@@ -42,9 +42,9 @@ pub(crate) fn narrow<K: Kind>(
     input: &mut [u8; LONGEST],
 ) -> Result<(), Fault>
     requires { length digits.now ≡ 6 }
-    ensures answer { done (read result) ≡ answer (asked (model station.old.bank)) (items station.old.book) (narrows_by (decoded digits.now)) }
-    ensures book { items station.new.book ≡ step (asked (model station.old.bank)) (items station.old.book) (narrows_by (decoded digits.now)) }
-    ensures bank { model station.new.bank ≡ model station.old.bank }
+    ensures answer { done (read result) ≡ answer (asked (K.model station.old.bank)) (items station.old.book) (narrows_by (decoded digits.now)) }
+    ensures book { items station.new.book ≡ step (asked (K.model station.old.bank)) (items station.old.book) (narrows_by (decoded digits.now)) }
+    ensures bank { K.model station.new.bank ≡ K.model station.old.bank }
 {
     let n = decode(digits, input);
     let bytes = &input[0..n];
@@ -58,9 +58,9 @@ pub(crate) fn retire<K: Kind>(
     input: &mut [u8; LONGEST],
 ) -> Result<(), Fault>
     requires { length digits.now ≡ 2 }
-    ensures answer { done (read result) ≡ answer (asked (model station.old.bank)) (items station.old.book) (retires_by (decoded digits.now)) }
-    ensures book { items station.new.book ≡ step (asked (model station.old.bank)) (items station.old.book) (retires_by (decoded digits.now)) }
-    ensures bank { model station.new.bank ≡ model station.old.bank }
+    ensures answer { done (read result) ≡ answer (asked (K.model station.old.bank)) (items station.old.book) (retires_by (decoded digits.now)) }
+    ensures book { items station.new.book ≡ step (asked (K.model station.old.bank)) (items station.old.book) (retires_by (decoded digits.now)) }
+    ensures bank { K.model station.new.bank ≡ K.model station.old.bank }
 {
     let n = decode(digits, input);
     let bytes = &input[0..n];
@@ -75,10 +75,10 @@ pub(crate) fn seal<'o, K: Kind>(
     output: &'o mut [u8; LONGEST],
 ) -> Result<&'o [u8], Fault>
     requires { (2 ≤ length digits.now) × (length digits.now ≤ 8224) }
-    ensures answer { seen result ≡ sealed (asked (model station.old.bank)) (items station.old.book) (slice_index (decoded digits.now) 0) (drop 1 (decoded digits.now)) 4112 }
+    ensures answer { seen result ≡ sealed (asked (K.model station.old.bank)) (items station.old.book) (slice_index (decoded digits.now) 0) (drop 1 (decoded digits.now)) 4112 }
     ensures sized { IfOk result (λ bytes. length bytes.now ≤ 4112) }
     ensures book { station.new.book ≡ station.old.book }
-    ensures bank { model station.new.bank ≡ model station.old.bank }
+    ensures bank { K.model station.new.bank ≡ K.model station.old.bank }
 {
     let n = decode(digits, input);
     let length = station.seal(input[0], &input[1..n], output)?;
@@ -92,10 +92,10 @@ pub(crate) fn take<'i, K: Kind>(
     input: &'i mut [u8; LONGEST],
 ) -> Result<&'i [u8], Fault>
     requires { length digits.now ≤ 8224 }
-    ensures answer { seen result ≡ taken (asked (model station.old.bank)) (items station.old.book) (decoded digits.now) }
+    ensures answer { seen result ≡ taken (asked (K.model station.old.bank)) (items station.old.book) (decoded digits.now) }
     ensures sized { IfOk result (λ bytes. length bytes.now ≤ 4112) }
     ensures book { station.new.book ≡ station.old.book }
-    ensures bank { model station.new.bank ≡ model station.old.bank }
+    ensures bank { K.model station.new.bank ≡ K.model station.old.bank }
 {
     let n = decode(digits, input);
     station.take(&input[0..n])

@@ -33,7 +33,7 @@ fn obey_all<K: Kind>(
 
 // The printed lines of an input at a new station.
 fn all_printed<K: Kind + Drop>(heap: Global, bank: K, input: &[u8]) -> Result<Vec<u8>, AllocError>
-    ensures printed { IfOk result (λ v. v.items ≡ transcript_of (asked (model bank)) input.now) }
+    ensures printed { IfOk result (λ v. v.items ≡ transcript_of (asked (K.model bank)) input.now) }
     ensures needs { input.now ≡ [] → is_ok result ≡ true }
 {
     let mut console = Console::new(bank);
@@ -49,7 +49,7 @@ pub fn transcript<K: Kind + Drop>(
     bank: K,
     input: &[u8],
 ) -> Result<Vec<u8>, AllocError>
-    ensures printed { IfOk result (λ v. v.items ≡ transcript_of (asked (model bank)) input.now) }
+    ensures printed { IfOk result (λ v. v.items ≡ transcript_of (asked (K.model bank)) input.now) }
     ensures needs { input.now ≡ [] → is_ok result ≡ true }
     ensures promises { LinesPromise }
 {

@@ -19,20 +19,20 @@ use engine::engine::Engine;
 impl<E: Engine> Crc<E> {
     // What is admitted, as a value that has the facts of its law.
     pub fn admitted(&mut self, d: Description, reach: u16) -> Result<AdmittedCrc, Fault>
-        ensures answer { admitted result ≡ (asked (crc_model (carries_of self.old.engine))).admission d reach }
+        ensures answer { admitted result ≡ (asked (crc_model (E.carries_of self.old.engine))).admission d reach }
         ensures description { IfOk result (λ a. a.description ≡ d) }
         ensures reach { IfOk result (λ a. a.reach ≡ reach) }
-        ensures carries { carries_of self.new.engine ≡ carries_of self.old.engine }
+        ensures carries { E.carries_of self.new.engine ≡ E.carries_of self.old.engine }
     {
         self.admission(d, reach)
     }
 
     // Asks all of the description, and then of the reach.
     fn admission(&mut self, d: Description, reach: u16) -> Result<AdmittedCrc, Fault>
-        ensures answer { admitted result ≡ (asked (crc_model (carries_of self.old.engine))).admission d reach }
+        ensures answer { admitted result ≡ (asked (crc_model (E.carries_of self.old.engine))).admission d reach }
         ensures description { IfOk result (λ a. a.description ≡ d) }
         ensures reach { IfOk result (λ a. a.reach ≡ reach) }
-        ensures carries { carries_of self.new.engine ≡ carries_of self.old.engine }
+        ensures carries { E.carries_of self.new.engine ≡ E.carries_of self.old.engine }
     {
         self.fit(d)?;
         crc_reaches(d, reach)?;
@@ -46,8 +46,8 @@ impl<E: Engine> Crc<E> {
 impl<E: Engine> Crc<E> {
     // The sheet, where the description is not refused.
     fn sheet_of(&mut self, d: Description) -> Result<Sheet, Fault>
-        ensures answer { read result ≡ (asked (crc_model (carries_of self.old.engine))).sheet d }
-        ensures carries { carries_of self.new.engine ≡ carries_of self.old.engine }
+        ensures answer { read result ≡ (asked (crc_model (E.carries_of self.old.engine))).sheet d }
+        ensures carries { E.carries_of self.new.engine ≡ E.carries_of self.old.engine }
     {
         self.fit(d)?;
         let even = even_terms(d.degree, d.low);
@@ -67,9 +67,9 @@ impl<E: Engine> Crc<E> {
         message: &[u8],
         out: &mut [u8],
     ) -> Result<usize, Fault>
-        ensures answer { read result ≡ length_of ((asked (crc_model (carries_of self.old.engine))).check d message.now (length out.old)) }
-        ensures written { out.new ≡ written ((asked (crc_model (carries_of self.old.engine))).check d message.now (length out.old)) out.old }
-        ensures carries { carries_of self.new.engine ≡ carries_of self.old.engine }
+        ensures answer { read result ≡ length_of ((asked (crc_model (E.carries_of self.old.engine))).check d message.now (length out.old)) }
+        ensures written { out.new ≡ written ((asked (crc_model (E.carries_of self.old.engine))).check d message.now (length out.old)) out.old }
+        ensures carries { E.carries_of self.new.engine ≡ E.carries_of self.old.engine }
     {
         self.fit(d)?;
         let count = check_bytes(d.degree);

@@ -18,8 +18,8 @@ use engine::engine::Engine;
 impl<E: Engine> CrcParity<E> {
     // The sheet, where the description is not refused.
     fn sheet_of(&mut self, d: Description) -> Result<Sheet, Fault>
-        ensures answer { read result ≡ (asked (parity_model (carries_of self.old.engine))).sheet d }
-        ensures carries { carries_of self.new.engine ≡ carries_of self.old.engine }
+        ensures answer { read result ≡ (asked (parity_model (E.carries_of self.old.engine))).sheet d }
+        ensures carries { E.carries_of self.new.engine ≡ E.carries_of self.old.engine }
     {
         self.fit(d)?;
         Ok(Sheet {
@@ -38,9 +38,9 @@ impl<E: Engine> CrcParity<E> {
         message: &[u8],
         out: &mut [u8],
     ) -> Result<usize, Fault>
-        ensures answer { read result ≡ length_of ((asked (parity_model (carries_of self.old.engine))).check d message.now (length out.old)) }
-        ensures written { out.new ≡ written ((asked (parity_model (carries_of self.old.engine))).check d message.now (length out.old)) out.old }
-        ensures carries { carries_of self.new.engine ≡ carries_of self.old.engine }
+        ensures answer { read result ≡ length_of ((asked (parity_model (E.carries_of self.old.engine))).check d message.now (length out.old)) }
+        ensures written { out.new ≡ written ((asked (parity_model (E.carries_of self.old.engine))).check d message.now (length out.old)) out.old }
+        ensures carries { E.carries_of self.new.engine ≡ E.carries_of self.old.engine }
     {
         self.fit(d)?;
         let count = check_bytes(d.degree);

@@ -67,11 +67,11 @@ impl<E: Engine> CrcParity<E> {
 
     // Asks all of a description; then the engine has its generator, and a register of zero.
     pub(crate) fn fit(&mut self, d: Description) -> Result<(), Fault>
-        ensures answer { read result ≡ by_rules (described_rules (parity_model (carries_of self.old.engine)) d) tt }
-        ensures carries { carries_of self.new.engine ≡ carries_of self.old.engine }
-        ensures degree { OnOk result (degree_of self.new.engine ≡ d.degree) }
-        ensures low { OnOk result (low_of self.new.engine ≡ d.low) }
-        ensures register { OnOk result (register_of self.new.engine ≡ 0) }
+        ensures answer { read result ≡ by_rules (described_rules (parity_model (E.carries_of self.old.engine)) d) tt }
+        ensures carries { E.carries_of self.new.engine ≡ E.carries_of self.old.engine }
+        ensures degree { OnOk result (E.degree_of self.new.engine ≡ d.degree) }
+        ensures low { OnOk result (E.low_of self.new.engine ≡ d.low) }
+        ensures register { OnOk result (E.register_of self.new.engine ≡ 0) }
     {
         fields(d)?;
         self.engine.set(d.degree, d.low)

@@ -9,20 +9,20 @@ use engine::engine::Engine;
 
 // Sets the engine to X^degree + low, and answers 0 or the number of the refusal, which alters nothing.
 pub(crate) fn set_to<E: Engine>(engine: &mut E, degree: u8, low: u32) -> u8
-    ensures answer { result ≡ number_of (setting (carries_of engine.old degree low) degree low) }
-    ensures degree { degree_of engine.new ≡ if_ok (setting (carries_of engine.old degree low) degree low) degree (degree_of engine.old) }
-    ensures low { low_of engine.new ≡ if_ok (setting (carries_of engine.old degree low) degree low) low (low_of engine.old) }
-    ensures register { register_of engine.new ≡ if_ok (setting (carries_of engine.old degree low) degree low) 0 (register_of engine.old) }
+    ensures answer { result ≡ number_of (setting (E.carries_of engine.old degree low) degree low) }
+    ensures degree { E.degree_of engine.new ≡ if_ok (setting (E.carries_of engine.old degree low) degree low) degree (E.degree_of engine.old) }
+    ensures low { E.low_of engine.new ≡ if_ok (setting (E.carries_of engine.old degree low) degree low) low (E.low_of engine.old) }
+    ensures register { E.register_of engine.new ≡ if_ok (setting (E.carries_of engine.old degree low) degree low) 0 (E.register_of engine.old) }
 {
     number_of(&engine.set(degree, low))
 }
 
 // The remainder of a message by the generator that the engine holds, fed at once.
 pub(crate) fn remainder_of<E: Engine>(engine: &mut E, message: &[u8]) -> u32
-    ensures answer { result ≡ remainder (degree_of engine.old) (low_of engine.old) message.now }
-    ensures degree { degree_of engine.new ≡ degree_of engine.old }
-    ensures low { low_of engine.new ≡ low_of engine.old }
-    ensures register { register_of engine.new ≡ result }
+    ensures answer { result ≡ remainder (E.degree_of engine.old) (E.low_of engine.old) message.now }
+    ensures degree { E.degree_of engine.new ≡ E.degree_of engine.old }
+    ensures low { E.low_of engine.new ≡ E.low_of engine.old }
+    ensures register { E.register_of engine.new ≡ result }
 {
     engine.clear();
     engine.feed_all(message);
@@ -31,10 +31,10 @@ pub(crate) fn remainder_of<E: Engine>(engine: &mut E, message: &[u8]) -> u32
 
 // The same, fed byte by byte.
 pub(crate) fn remainder_by_bytes<E: Engine>(engine: &mut E, message: &[u8]) -> u32
-    ensures answer { result ≡ remainder (degree_of engine.old) (low_of engine.old) message.now }
-    ensures degree { degree_of engine.new ≡ degree_of engine.old }
-    ensures low { low_of engine.new ≡ low_of engine.old }
-    ensures register { register_of engine.new ≡ result }
+    ensures answer { result ≡ remainder (E.degree_of engine.old) (E.low_of engine.old) message.now }
+    ensures degree { E.degree_of engine.new ≡ E.degree_of engine.old }
+    ensures low { E.low_of engine.new ≡ E.low_of engine.old }
+    ensures register { E.register_of engine.new ≡ result }
 {
     engine.clear();
     for b in message {

@@ -10,7 +10,7 @@ use code::kind::Kind;
 
 // Whether a reach is admitted.
 pub(crate) fn admit<K: Kind>(bank: &mut K, d: Description, reach: u16) -> Result<usize, Fault>
-    ensures { read result ≡ done ((asked (model bank.old)).admission d reach) }
+    ensures { read result ≡ done ((asked (K.model bank.old)).admission d reach) }
 {
     bank.admit(d, reach)?;
     Ok(0)
@@ -24,8 +24,8 @@ pub(crate) fn check<K: Kind>(
     out: &mut [u8],
     more: u32,
 ) -> Result<usize, Fault>
-    ensures answer { read result ≡ length_of ((asked (model bank.old)).check d message.now (length out.old)) }
-    ensures written { out.new ≡ written ((asked (model bank.old)).check d message.now (length out.old)) out.old }
+    ensures answer { read result ≡ length_of ((asked (K.model bank.old)).check d message.now (length out.old)) }
+    ensures written { out.new ≡ written ((asked (K.model bank.old)).check d message.now (length out.old)) out.old }
 {
     let mut answer = bank.check(d, message, out);
     for _ in 0..more {

@@ -15,9 +15,9 @@ use station::station::Station;
 
 // Makes one change.
 pub(crate) fn make<K: Kind>(station: &mut Station<K>, c: BookChange) -> Result<(), Fault>
-    ensures answer { read result ≡ changing (asked (model station.old.bank)) (items station.old.book) (change_of c) }
-    ensures book { items station.new.book ≡ step (asked (model station.old.bank)) (items station.old.book) (call_of c) }
-    ensures bank { model station.new.bank ≡ model station.old.bank }
+    ensures answer { read result ≡ changing (asked (K.model station.old.bank)) (items station.old.book) (change_of c) }
+    ensures book { items station.new.book ≡ step (asked (K.model station.old.bank)) (items station.old.book) (call_of c) }
+    ensures bank { K.model station.new.bank ≡ K.model station.old.bank }
 {
     match c.call {
         1 => station.enter(c.number, description_of(c.code), c.reach),
@@ -28,8 +28,8 @@ pub(crate) fn make<K: Kind>(station: &mut Station<K>, c: BookChange) -> Result<(
 
 // A new station at which the changes were made, one after the other.
 pub(crate) fn station_with<K: Kind>(bank: K, changes: &[BookChange]) -> Station<K>
-    ensures book { items result.book ≡ book_with (asked (model bank)) changes.now }
-    ensures bank { model result.bank ≡ model bank }
+    ensures book { items result.book ≡ book_with (asked (K.model bank)) changes.now }
+    ensures bank { K.model result.bank ≡ K.model bank }
 {
     let mut station = Station::new(bank);
     for c in changes {
@@ -44,7 +44,7 @@ pub(crate) fn change<K: Kind + Drop>(
     changes: &[BookChange],
     last: BookChange,
 ) -> Result<usize, Fault>
-    ensures { read result ≡ done (changing (asked (model bank)) (book_with (asked (model bank)) changes.now) (change_of last)) }
+    ensures { read result ≡ done (changing (asked (K.model bank)) (book_with (asked (K.model bank)) changes.now) (change_of last)) }
 {
     let mut station = station_with(bank, changes);
     make(&mut station, last)?;
@@ -59,8 +59,8 @@ fn seal_again<K: Kind>(
     out: &mut [u8],
     more: u32,
 ) -> Result<usize, Fault>
-    ensures answer { read result ≡ length_of (sealed (asked (model station.old.bank)) (items station.old.book) number message.now (length out.old)) }
-    ensures written { out.new ≡ written (sealed (asked (model station.old.bank)) (items station.old.book) number message.now (length out.old)) out.old }
+    ensures answer { read result ≡ length_of (sealed (asked (K.model station.old.bank)) (items station.old.book) number message.now (length out.old)) }
+    ensures written { out.new ≡ written (sealed (asked (K.model station.old.bank)) (items station.old.book) number message.now (length out.old)) out.old }
 {
     let mut answer = station.seal(number, message, out);
     for _ in 0..more {
@@ -78,8 +78,8 @@ pub(crate) fn seal<K: Kind + Drop>(
     out: &mut [u8],
     more: u32,
 ) -> Result<usize, Fault>
-    ensures answer { read result ≡ length_of (sealed (asked (model bank)) (book_with (asked (model bank)) changes.now) number message.now (length out.old)) }
-    ensures written { out.new ≡ written (sealed (asked (model bank)) (book_with (asked (model bank)) changes.now) number message.now (length out.old)) out.old }
+    ensures answer { read result ≡ length_of (sealed (asked (K.model bank)) (book_with (asked (K.model bank)) changes.now) number message.now (length out.old)) }
+    ensures written { out.new ≡ written (sealed (asked (K.model bank)) (book_with (asked (K.model bank)) changes.now) number message.now (length out.old)) out.old }
 {
     let mut station = station_with(bank, changes);
     seal_again(&mut station, number, message, out, more)
@@ -91,7 +91,7 @@ fn take_again<'f, K: Kind>(
     frame: &'f [u8],
     more: u32,
 ) -> Result<&'f [u8], Fault>
-    ensures { seen result ≡ taken (asked (model station.old.bank)) (items station.old.book) frame.now }
+    ensures { seen result ≡ taken (asked (K.model station.old.bank)) (items station.old.book) frame.now }
 {
     let mut answer = station.take(frame);
     for _ in 0..more {
@@ -107,7 +107,7 @@ pub(crate) fn take<K: Kind + Drop>(
     frame: &[u8],
     more: u32,
 ) -> Result<usize, Fault>
-    ensures { read result ≡ length_of (taken (asked (model bank)) (book_with (asked (model bank)) changes.now) frame.now) }
+    ensures { read result ≡ length_of (taken (asked (K.model bank)) (book_with (asked (K.model bank)) changes.now) frame.now) }
 {
     let mut station = station_with(bank, changes);
     let message = take_again(&mut station, frame, more)?;
@@ -122,7 +122,7 @@ fn trial_again<K: Kind>(
     byte: u8,
     more: u32,
 ) -> Result<(), Fault>
-    ensures answer { read result ≡ trying (asked (model station.old.bank)) (items station.old.book) frame.old at byte }
+    ensures answer { read result ≡ trying (asked (K.model station.old.bank)) (items station.old.book) frame.old at byte }
     ensures back { frame.new ≡ frame.old }
 {
     let mut answer = station.trial(frame, at, byte);
@@ -141,7 +141,7 @@ pub(crate) fn trial<K: Kind + Drop>(
     byte: u8,
     more: u32,
 ) -> Result<usize, Fault>
-    ensures answer { read result ≡ done (trying (asked (model bank)) (book_with (asked (model bank)) changes.now) frame.old at byte) }
+    ensures answer { read result ≡ done (trying (asked (K.model bank)) (book_with (asked (K.model bank)) changes.now) frame.old at byte) }
     ensures back { frame.new ≡ frame.old }
 {
     let mut station = station_with(bank, changes);

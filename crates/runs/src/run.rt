@@ -23,10 +23,10 @@ pub fn perform<'a, K: Kind>(
     station: &mut Station<K>,
     call: Call<'a>,
 ) -> Result<Outcome<'a>, AllocError>
-    ensures answer { IfOk result (λ o. outcome_seen o ≡ answer (asked (model station.old.bank)) (items station.old.book) (plain_call call.entry)) }
+    ensures answer { IfOk result (λ o. outcome_seen o ≡ answer (asked (K.model station.old.bank)) (items station.old.book) (plain_call call.entry)) }
     ensures needs { copies (plain_call call.entry) ≡ false → is_ok result ≡ true }
-    ensures book { items station.new.book ≡ if_ok result (step (asked (model station.old.bank)) (items station.old.book) (plain_call call.entry)) (items station.old.book) }
-    ensures bank { model station.new.bank ≡ model station.old.bank }
+    ensures book { items station.new.book ≡ if_ok result (step (asked (K.model station.old.bank)) (items station.old.book) (plain_call call.entry)) (items station.old.book) }
+    ensures bank { K.model station.new.bank ≡ K.model station.old.bank }
 {
     match call {
         Call::Enter {
@@ -60,13 +60,13 @@ fn run_all<'a, K: Kind + Drop>(
     bank: K,
     calls: &[Call<'a>],
 ) -> Result<Ran<'a, K>, AllocError>
-    ensures outcomes { IfOk result (λ d. outcomes_seen d.outcomes.items ≡ answers_from (asked (model bank)) empty_book (plain_calls calls.now)) }
-    ensures book { IfOk result (λ d. items d.station.book ≡ book_after (asked (model bank)) (plain_calls calls.now)) }
-    ensures bank { IfOk result (λ d. model d.station.bank ≡ model bank) }
-    ensures admitted { IfOk result (λ d. Admitted (asked (model bank)) (items d.station.book)) }
+    ensures outcomes { IfOk result (λ d. outcomes_seen d.outcomes.items ≡ answers_from (asked (K.model bank)) empty_book (plain_calls calls.now)) }
+    ensures book { IfOk result (λ d. items d.station.book ≡ book_after (asked (K.model bank)) (plain_calls calls.now)) }
+    ensures bank { IfOk result (λ d. K.model d.station.bank ≡ K.model bank) }
+    ensures admitted { IfOk result (λ d. Admitted (asked (K.model bank)) (items d.station.book)) }
     ensures few { IfOk result (λ d. length (items d.station.book).entries ≤ 16) }
     ensures numbers { IfOk result (λ d. AllByNumbers (plain_calls calls.now) (outcomes_seen d.outcomes.items)) }
-    ensures ruled { IfOk result (λ d. (All Typed (plain_calls calls.now) → AllByRules (model bank) empty_book (plain_calls calls.now) (outcomes_seen d.outcomes.items))) }
+    ensures ruled { IfOk result (λ d. (All Typed (plain_calls calls.now) → AllByRules (K.model bank) empty_book (plain_calls calls.now) (outcomes_seen d.outcomes.items))) }
 {
     let mut station = Station::new(bank);
     let mut outcomes = Vec::new(heap);
@@ -90,14 +90,14 @@ pub fn run<'a, K: Kind + Drop>(
     bank: K,
     calls: &[Call<'a>],
 ) -> Result<Ran<'a, K>, AllocError>
-    ensures outcomes { IfOk result (λ d. outcomes_seen d.outcomes.items ≡ answers_from (asked (model bank)) empty_book (plain_calls calls.now)) }
-    ensures book { IfOk result (λ d. items d.station.book ≡ book_after (asked (model bank)) (plain_calls calls.now)) }
+    ensures outcomes { IfOk result (λ d. outcomes_seen d.outcomes.items ≡ answers_from (asked (K.model bank)) empty_book (plain_calls calls.now)) }
+    ensures book { IfOk result (λ d. items d.station.book ≡ book_after (asked (K.model bank)) (plain_calls calls.now)) }
     ensures promises { StationsPromise }
-    ensures bank { IfOk result (λ d. model d.station.bank ≡ model bank) }
-    ensures admitted { IfOk result (λ d. Admitted (asked (model bank)) (items d.station.book)) }
+    ensures bank { IfOk result (λ d. K.model d.station.bank ≡ K.model bank) }
+    ensures admitted { IfOk result (λ d. Admitted (asked (K.model bank)) (items d.station.book)) }
     ensures few { IfOk result (λ d. length (items d.station.book).entries ≤ 16) }
     ensures numbers { IfOk result (λ d. AllByNumbers (plain_calls calls.now) (outcomes_seen d.outcomes.items)) }
-    ensures ruled { IfOk result (λ d. (All Typed (plain_calls calls.now) → AllByRules (model bank) empty_book (plain_calls calls.now) (outcomes_seen d.outcomes.items))) }
+    ensures ruled { IfOk result (λ d. (All Typed (plain_calls calls.now) → AllByRules (K.model bank) empty_book (plain_calls calls.now) (outcomes_seen d.outcomes.items))) }
 {
     promises();
     run_all(heap, bank, calls)

@@ -14,8 +14,8 @@ pub(crate) fn check_of<'b, K: Kind>(
     message: &[u8],
     buffer: &'b mut [u8; 64],
 ) -> Result<&'b [u8], Fault>
-    ensures answer { seen result ≡ (asked (model bank.old)).check d message.now 64 }
-    ensures same { model bank.new ≡ model bank.old }
+    ensures answer { seen result ≡ (asked (K.model bank.old)).check d message.now 64 }
+    ensures same { K.model bank.new ≡ K.model bank.old }
 {
     let n = bank.check(d, message, buffer)?;
     Ok(&buffer[0..n])

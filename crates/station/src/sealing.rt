@@ -32,9 +32,9 @@ pub(crate) fn seal_by<K: Kind>(
     message: &[u8],
     out: &mut [u8],
 ) -> Result<usize, Fault>
-    ensures answer { read result ≡ length_of (sealed_by (asked (model bank.old)) e number message.now (length out.old)) }
-    ensures written { out.new ≡ written (sealed_by (asked (model bank.old)) e number message.now (length out.old)) out.old }
-    ensures same { model bank.new ≡ model bank.old }
+    ensures answer { read result ≡ length_of (sealed_by (asked (K.model bank.old)) e number message.now (length out.old)) }
+    ensures written { out.new ≡ written (sealed_by (asked (K.model bank.old)) e number message.now (length out.old)) out.old }
+    ensures same { K.model bank.new ≡ K.model bank.old }
 {
     let s = bank.sheet(e.description)?;
     whole_message(message.len(), s)?;

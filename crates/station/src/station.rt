@@ -42,9 +42,9 @@ impl<K: Kind> Station<K> {
 
     // A code under a number, for words of up to reach bytes.
     pub fn enter(&mut self, number: u8, d: Description, reach: u16) -> Result<(), Fault>
-        ensures answer { read result ≡ entering (asked (model self.old.bank)) (items self.old.book) number d reach }
-        ensures book { items self.new.book ≡ step (asked (model self.old.bank)) (items self.old.book) (Call.change (Change.enter number d reach)) }
-        ensures bank { model self.new.bank ≡ model self.old.bank }
+        ensures answer { read result ≡ entering (asked (K.model self.old.bank)) (items self.old.book) number d reach }
+        ensures book { items self.new.book ≡ step (asked (K.model self.old.bank)) (items self.old.book) (Call.change (Change.enter number d reach)) }
+        ensures bank { K.model self.new.bank ≡ K.model self.old.bank }
     {
         self.bank.admit(d, reach)?;
         self.book.add(Entry {
@@ -56,9 +56,9 @@ impl<K: Kind> Station<K> {
 
     // A lower reach for a number.
     pub fn narrow(&mut self, number: u8, reach: u16) -> Result<(), Fault>
-        ensures answer { read result ≡ narrowing (asked (model self.old.bank)) (items self.old.book) number reach }
-        ensures book { items self.new.book ≡ step (asked (model self.old.bank)) (items self.old.book) (Call.change (Change.narrow number reach)) }
-        ensures bank { model self.new.bank ≡ model self.old.bank }
+        ensures answer { read result ≡ narrowing (asked (K.model self.old.bank)) (items self.old.book) number reach }
+        ensures book { items self.new.book ≡ step (asked (K.model self.old.bank)) (items self.old.book) (Call.change (Change.narrow number reach)) }
+        ensures bank { K.model self.new.bank ≡ K.model self.old.bank }
     {
         let e = self.book.get(number)?;
         if reach >= e.reach {
@@ -72,18 +72,18 @@ impl<K: Kind> Station<K> {
     // A number's entry is deleted.
     pub fn retire(&mut self, number: u8) -> Result<(), Fault>
         ensures answer { read result ≡ retiring (items self.old.book) number }
-        ensures book { items self.new.book ≡ step (asked (model self.old.bank)) (items self.old.book) (Call.change (Change.retire number)) }
-        ensures bank { model self.new.bank ≡ model self.old.bank }
+        ensures book { items self.new.book ≡ step (asked (K.model self.old.bank)) (items self.old.book) (Call.change (Change.retire number)) }
+        ensures bank { K.model self.new.bank ≡ K.model self.old.bank }
     {
         self.book.remove(number)
     }
 
     // Writes the frame of a message at the start of the output, and answers its length.
     pub fn seal(&mut self, number: u8, message: &[u8], out: &mut [u8]) -> Result<usize, Fault>
-        ensures answer { read result ≡ length_of (sealed (asked (model self.old.bank)) (items self.old.book) number message.now (length out.old)) }
-        ensures written { out.new ≡ written (sealed (asked (model self.old.bank)) (items self.old.book) number message.now (length out.old)) out.old }
+        ensures answer { read result ≡ length_of (sealed (asked (K.model self.old.bank)) (items self.old.book) number message.now (length out.old)) }
+        ensures written { out.new ≡ written (sealed (asked (K.model self.old.bank)) (items self.old.book) number message.now (length out.old)) out.old }
         ensures book { self.new.book ≡ self.old.book }
-        ensures bank { model self.new.bank ≡ model self.old.bank }
+        ensures bank { K.model self.new.bank ≡ K.model self.old.bank }
     {
         let e = self.book.get(number)?;
         seal_by(&mut self.bank, e, number, message, out)
@@ -91,9 +91,9 @@ impl<K: Kind> Station<K> {
 
     // Hands over the part of the frame that is the message.
     pub fn take<'f>(&mut self, frame: &'f [u8]) -> Result<&'f [u8], Fault>
-        ensures answer { seen result ≡ taken (asked (model self.old.bank)) (items self.old.book) frame.now }
+        ensures answer { seen result ≡ taken (asked (K.model self.old.bank)) (items self.old.book) frame.now }
         ensures book { self.new.book ≡ self.old.book }
-        ensures bank { model self.new.bank ≡ model self.old.bank }
+        ensures bank { K.model self.new.bank ≡ K.model self.old.bank }
     {
         let parts = parts_of(frame)?;
         let e = self.book.get(parts.number)?;

@@ -21,8 +21,8 @@ fn message_of<'f, K: Kind>(
     word: &'f [u8],
 ) -> Result<&'f [u8], Fault>
     requires { (check ≤ length word.now) × (length word.now < 2 ^ 32) }
-    ensures answer { seen result ≡ message_of (asked (model bank.old)) d check word.now }
-    ensures same { model bank.new ≡ model bank.old }
+    ensures answer { seen result ≡ message_of (asked (K.model bank.old)) d check word.now }
+    ensures same { K.model bank.new ≡ K.model bank.old }
 {
     let (message, tail) = word.split_at(word.len() - usize::from(check));
     let mut buffer = [0; 64];
@@ -39,8 +39,8 @@ pub(crate) fn open<'f, K: Kind>(
     word: &'f [u8],
 ) -> Result<&'f [u8], Fault>
     requires { (length coded.now ≤ 10) × (length word.now < 2 ^ 32) }
-    ensures answer { seen result ≡ opened (asked (model bank.old)) e coded.now word.now }
-    ensures same { model bank.new ≡ model bank.old }
+    ensures answer { seen result ≡ opened (asked (K.model bank.old)) e coded.now word.now }
+    ensures same { K.model bank.new ≡ K.model bank.old }
 {
     same_description(coded, e.description)?;
     let s = bank.sheet(e.description)?;

@@ -42,10 +42,10 @@ impl<K: Kind> Station<K> {
     // Takes the frame with a byte planted at a place inside. The frame has its own byte back on every way out.
     fn take_planted(&mut self, frame: &mut [u8], at: usize, byte: u8) -> Result<(), Fault>
         requires { at < length frame.old }
-        ensures answer { read result ≡ trying (asked (model self.old.bank)) (items self.old.book) frame.old at byte }
+        ensures answer { read result ≡ trying (asked (K.model self.old.bank)) (items self.old.book) frame.old at byte }
         ensures back { frame.new ≡ frame.old }
         ensures book { self.new.book ≡ self.old.book }
-        ensures bank { model self.new.bank ≡ model self.old.bank }
+        ensures bank { K.model self.new.bank ≡ K.model self.old.bank }
     {
         let old = frame[at];
         frame[at] = byte;
@@ -56,10 +56,10 @@ impl<K: Kind> Station<K> {
 
     // Takes the frame with another byte at a place.
     pub fn trial(&mut self, frame: &mut [u8], at: usize, byte: u8) -> Result<(), Fault>
-        ensures answer { read result ≡ trying (asked (model self.old.bank)) (items self.old.book) frame.old at byte }
+        ensures answer { read result ≡ trying (asked (K.model self.old.bank)) (items self.old.book) frame.old at byte }
         ensures back { frame.new ≡ frame.old }
         ensures book { self.new.book ≡ self.old.book }
-        ensures bank { model self.new.bank ≡ model self.old.bank }
+        ensures bank { K.model self.new.bank ≡ K.model self.old.bank }
     {
         if at >= frame.len() {
             return Err(Fault::Outside(frame.len()));

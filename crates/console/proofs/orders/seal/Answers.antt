@@ -10,8 +10,8 @@ use Rattle.station.proofs.Checked.{held_in_lem}
 use Rattle.console.specs.Decode.{decoded}
 use Rattle.console.proofs.orders.seal.Goals as goal
 
-pub slice-bounds-result-end : goal.slice-bounds-result-end
-slice-bounds-result-end g c =
+pub slice_bounds-result-end : goal.slice_bounds-result-end
+slice_bounds-result-end g c =
     let a = asked (g.K.Kind.model c.args.station.now.bank) in
     let b = items c.args.station.now.book in
     let n = c.decode-n.result in
@@ -20,9 +20,9 @@ slice-bounds-result-end g c =
     let l : length out ≡ 4112 = c.told-output in
     let l2 : length c.seal.new.out ≡ length out = search rules in
     let h =
-    held_in_lem (sealed a b (get_or buffer 0 0) (take (n - 1) (drop 1 buffer)) (length out)) out c.seal.new.out c.in-ok-length.length
-    c.in-ok-length.ensures.answer c.seal.ensures.written l2 in
-    let short : c.in-ok-length.length ≤ 4112 = omega (arith, h.short, l) in
+    held_in_lem (sealed a b (get_or buffer 0 0) (take (n - 1) (drop 1 buffer)) (length out)) out c.seal.new.out c.in_ok-length.length
+    c.in_ok-length.ensures.answer c.seal.ensures.written l2 in
+    let short : c.in_ok-length.length ≤ 4112 = omega (arith, h.short, l) in
     search rules
 
 pub returns : goal.returns
@@ -33,7 +33,7 @@ returns g c =
     let buffer = c.decode-n.new.buffer in
     let s = decoded c.args.digits.now in
     let out = c.args.output.now in
-    let k = c.in-ok-length.length in
+    let k = c.in_ok-length.length in
     let some : 0 < n = omega (arith, c.decode-n.ensures.len) in
     let first : get_or buffer 0 0 ≡ get_or s 0 0 = sym (get_or-take n buffer 0 0 some) ∙ ap (λ t. get_or t 0 0) c.decode-n.ensures.bytes in
     let rest : take (n - 1) (drop 1 buffer) ≡ drop 1 s = between_is buffer 1 n ∙ ap (drop 1) c.decode-n.ensures.bytes in
@@ -41,7 +41,7 @@ returns g c =
     let l2 : length c.seal.new.out ≡ length out = search rules in
     let h =
     held_in_lem (sealed a b (get_or buffer 0 0) (take (n - 1) (drop 1 buffer)) (length out)) out c.seal.new.out k
-    c.in-ok-length.ensures.answer c.seal.ensures.written l2 in
+    c.in_ok-length.ensures.answer c.seal.ensures.written l2 in
     let z : k - 0 ≡ k = omega arith in
     record {
       answer =

@@ -16,7 +16,7 @@ loop-rest-preserved g c =
     let a = asked (m s.bank) in
     let total = vec_items c.args.out.now ++ transcript_from a 1 (items s.book) (lines_of c.args.input.now) in
     let cut = c.cut_line.result in
-    let told = c.in-ok-obey.ensures in (
+    let told = c.in_ok-obey.ensures in (
       turn a l.number (items l.console.station.book) (vec_items l.out) total
           (asked (m l.console.station.bank)) (items c.obey.new.self.station.book) cut.line.now (lines_of cut.rest.now)
           (lines_of l.rest.now) (vec_items c.obey.new.out) (ap asked l.invariant.1) told.printed told.book c.cut_line.ensures.lines l.invariant.0,

@@ -23,10 +23,10 @@ pub loop-call-preserved : goal.loop-call-preserved
 loop-call-preserved g c =
     let m = g.K.Kind.model in
     let l = c.loop-call in
-    let told = c.in-ok-outcome.ensures in
+    let told = c.in_ok-outcome.ensures in
     let outs = vec_items l.outcomes in
-    let o = c.in-ok-outcome.outcome in
-    let grown = c.push.ensures.items ∙ ap (λ r. cond (is_ok r) (outs ++ o ∷ []) outs) c.in-ok-push.was in
+    let o = c.in_ok-outcome.outcome in
+    let grown = c.push.ensures.items ∙ ap (λ r. cond (is_ok r) (outs ++ o ∷ []) outs) c.in_ok-push.was in
     let t =
     turn (m c.new-station.result.bank) (m l.station.bank) c.args.calls.now l.call-index _ outs (vec_items c.push.new.self) o
     (items l.station.book) (items c.perform.new.station.book) (omega arith) l.invariant.0 l.invariant.1 l.invariant.2 grown told.answer told.book in

@@ -12,5 +12,5 @@ returns c =
           moved g.degree g.ok.1 g.low c.args.register c.degree-up.result c.feed_string.result c.args.bytes.now
           g.ok.2 c.requires.0 c.degree-up.ensures
           (c.feed_string.ensures (g.low * 2 ^ (32 - g.degree)) (up_lt g.degree g.ok.1 g.low g.ok.2) c.requires.1);
-      below = back_lt g.degree g.ok.1 c.degree-up.result c.feed_string.result c.degree-up.ensures c.feed_string.type-inv;
+      below = back_lt g.degree g.ok.1 c.degree-up.result c.feed_string.result c.degree-up.ensures c.feed_string.type_inv;
     }

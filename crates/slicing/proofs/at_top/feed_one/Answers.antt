@@ -14,5 +14,5 @@ returns c =
           moved g.degree g.ok.1 g.low c.args.register c.degree-up.result c.feed_byte.result (c.args.q ∷ [])
           g.ok.2 c.requires.0 c.degree-up.ensures
           (c.feed_byte.ensures low (up_lt g.degree g.ok.1 g.low g.ok.2) (table_of low 16 c.args.tables.now c.requires.1 0 (lit< tt)));
-      below = back_lt g.degree g.ok.1 c.degree-up.result c.feed_byte.result c.degree-up.ensures c.feed_byte.type-inv;
+      below = back_lt g.degree g.ok.1 c.degree-up.result c.feed_byte.result c.degree-up.ensures c.feed_byte.type_inv;
     }

@@ -6,24 +6,24 @@ use Rattle.code.specs.Model.{asked}
 use Rattle.station.proofs.Checked.{held_in_lem}
 use Rattle.station.proofs.checking.check_of.Goals as goal
 
-pub slice-bounds-result-end : goal.slice-bounds-result-end
-slice-bounds-result-end g c =
+pub slice_bounds-result-end : goal.slice_bounds-result-end
+slice_bounds-result-end g c =
     let out = c.args.buffer.now in
     let x = (asked (g.K.Kind.model c.args.bank.now)).check c.args.d c.args.message.now (length out) in
     let l : length out ≡ 64 = c.told-buffer in
     let l2 : length c.check.new.out ≡ length out = search rules in
-    let h = held_in_lem x out c.check.new.out c.in-ok-n.n c.in-ok-n.ensures.answer c.check.ensures.written l2 in
-    let short : c.in-ok-n.n ≤ 64 = omega (arith, h.short, l) in
+    let h = held_in_lem x out c.check.new.out c.in_ok-n.n c.in_ok-n.ensures.answer c.check.ensures.written l2 in
+    let short : c.in_ok-n.n ≤ 64 = omega (arith, h.short, l) in
     search rules
 
 pub returns : goal.returns
 returns g c =
     let out = c.args.buffer.now in
-    let n = c.in-ok-n.n in
+    let n = c.in_ok-n.n in
     let by = (asked (g.K.Kind.model c.args.bank.now)).check c.args.d c.args.message.now in
     let l : length out ≡ 64 = c.told-buffer in
     let l2 : length c.check.new.out ≡ length out = search rules in
-    let h = held_in_lem (by (length out)) out c.check.new.out n c.in-ok-n.ensures.answer c.check.ensures.written l2 in
+    let h = held_in_lem (by (length out)) out c.check.new.out n c.in_ok-n.ensures.answer c.check.ensures.written l2 in
     let z : n - 0 ≡ n = omega arith in
     record {
       answer =

@@ -29,13 +29,13 @@ returns g c =
     let e = c.args.e in
     let message = c.args.message.now in
     let out = c.args.out.now in
-    let check = c.in-ok-check.check.now in
+    let check = c.in_ok-check.check.now in
     let same : m c.sheet.new.self ≡ m c.args.bank.now = c.sheet.ensures.same in
     let all =
-    sealed-frame a e c.args.number message (length out) c.in-ok-s.s check c.in-ok-s.ensures.answer
-    c.in-ok-whole_message.ensures c.in-ok-within_reach.ensures c.in-ok-within_room.ensures
-    (c.in-ok-check.ensures.answer ∙ ap (λ k. (asked k).check e.description message 64) same)
-    c.in-ok-check_fits.ensures in
+    sealed-frame a e c.args.number message (length out) c.in_ok-s.s check c.in_ok-s.ensures.answer
+    c.in_ok-whole_message.ensures c.in_ok-within_reach.ensures c.in_ok-within_room.ensures
+    (c.in_ok-check.ensures.answer ∙ ap (λ k. (asked k).check e.description message 64) same)
+    c.in_ok-check_fits.ensures in
     record {
       answer = ap {B = Result ℕ Refusal} (λ k. Ok k) c.write_frame.ensures.long ∙ sym (ap length_of all);
       written = c.write_frame.ensures.out ∙ sym (ap (λ x. written x out) all);

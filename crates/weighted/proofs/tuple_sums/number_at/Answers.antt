@@ -16,9 +16,9 @@ returns-in-1 c =
     let e = c.in-1.is in
     record {
       number =
-          c.from.ensures ∙ sym (one_byte c.args.bytes.now c.args.at (λ k. (c.type-inv.bytes k).fits) (omega arith))
+          c.from.ensures ∙ sym (one_byte c.args.bytes.now c.args.at (λ k. (c.type_inv.bytes k).fits) (omega arith))
           ∙ ap (λ n. string 8 (take n (drop c.args.at c.args.bytes.now))) (sym e);
-      below = subst (λ n. c.from.result < 2 ^ (8 * n)) (sym e) (omega (arith, c.from.ensures, (c.type-inv.bytes c.args.at).fits));
+      below = subst (λ n. c.from.result < 2 ^ (8 * n)) (sym e) (omega (arith, c.from.ensures, (c.type_inv.bytes c.args.at).fits));
     }
 
 pub returns-in-2 : goal.returns-in-2
@@ -27,18 +27,18 @@ returns-in-2 c =
     record {
       number =
           c.from-in-2.ensures ∙ c.from_be_bytes.ensures
-          ∙ sym (two_bytes c.args.bytes.now c.args.at (λ k. (c.type-inv.bytes k).fits) (omega arith))
+          ∙ sym (two_bytes c.args.bytes.now c.args.at (λ k. (c.type_inv.bytes k).fits) (omega arith))
           ∙ ap (λ n. string 8 (take n (drop c.args.at c.args.bytes.now))) (sym e);
-      below = subst (λ n. c.from-in-2.result < 2 ^ (8 * n)) (sym e) (omega (arith, c.from-in-2.ensures, c.from_be_bytes.type-inv));
+      below = subst (λ n. c.from-in-2.result < 2 ^ (8 * n)) (sym e) (omega (arith, c.from-in-2.ensures, c.from_be_bytes.type_inv));
     }
 
-pub returns-in-default : goal.returns-in-default
-returns-in-default c =
+pub returns-in_default : goal.returns-in_default
+returns-in_default c =
     let e : c.args.count ≡ 4 = four c.args.count c.requires.0 (λ one. omega arith) (λ two. omega arith) in
     record {
       number =
-          c.from_be_bytes-in-default.ensures
-          ∙ sym (four_bytes c.args.bytes.now c.args.at (λ k. (c.type-inv.bytes k).fits) (omega arith))
+          c.from_be_bytes-in_default.ensures
+          ∙ sym (four_bytes c.args.bytes.now c.args.at (λ k. (c.type_inv.bytes k).fits) (omega arith))
           ∙ ap (λ n. string 8 (take n (drop c.args.at c.args.bytes.now))) (sym e);
-      below = subst (λ n. c.from_be_bytes-in-default.result < 2 ^ (8 * n)) (sym e) c.from_be_bytes-in-default.type-inv;
+      below = subst (λ n. c.from_be_bytes-in_default.result < 2 ^ (8 * n)) (sym e) c.from_be_bytes-in_default.type_inv;
     }

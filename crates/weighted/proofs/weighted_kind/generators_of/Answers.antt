@@ -15,20 +15,20 @@ use Rattle.weighted.proofs.weighted_kind.generators_of.Goals as goal
 shape : Description → List Rule
 shape d = rule (eqb d.kind 3) (refusal 11 Kind 2) ∷ weighted_sizes d
 
-pub returns-in-err-shape : goal.returns-in-err-shape
+pub returns-in_err-shape : goal.returns-in_err-shape
 unfolding shape
-returns-in-err-shape c =
+returns-in_err-shape c =
     let d = c.args.d in
-    let p = err_from_is_err_and c.from-residual.result c.from-residual.ensures.1 in
+    let p = err_from_is_err_and c.from_residual.result c.from_residual.ensures.1 in
     rw (p.1, p.2)
-    (sym (first_rules tt tt (shape d) (weighted_lows d) (refusal_of c.in-err-shape.field-0.0) c.in-err-shape.ensures))
+    (sym (first_rules tt tt (shape d) (weighted_lows d) (refusal_of c.in_err-shape.field-0.0) c.in_err-shape.ensures))
 
-pub returns-in-err-first : goal.returns-in-err-first
+pub returns-in_err-first : goal.returns-in_err-first
 unfolding shape
-returns-in-err-first c =
+returns-in_err-first c =
     let d = c.args.d in
-    let p = err_from_is_err_and c.from-residual-in-err-first.result c.from-residual-in-err-first.ensures.1 in
+    let p = err_from_is_err_and c.from_residual-in_err-first.result c.from_residual-in_err-first.ensures.1 in
     rw (p.1, p.2)
-    (sym (then_rules tt tt (shape d) (weighted_lows d) c.in-ok-shape.ensures
+    (sym (then_rules tt tt (shape d) (weighted_lows d) c.in_ok-shape.ensures
     ∙ first_rules tt tt (rule (proper_low d.degree d.low) (refusal 13 Kind 4) ∷ []) (drop 1 (weighted_lows d))
-    (refusal_of c.in-err-first.field-0.0) c.in-err-first.ensures))
+    (refusal_of c.in_err-first.field-0.0) c.in_err-first.ensures))

@@ -7,12 +7,12 @@ use Rattle.code.specs.CrcModel.{crc_model}
 use Rattle.code.proofs.Asking.{sheet_refused}
 use Rattle.crc.proofs.crc_kind.Crc.sheet_of.Goals as goal
 
-pub returns-in-err-fit : goal.returns-in-err-fit
-returns-in-err-fit g c =
+pub returns-in_err-fit : goal.returns-in_err-fit
+returns-in_err-fit g c =
     let m = crc_model (g.E.Engine.carries_of c.args.self.now.engine) in
-    let p = err_from_is_err_and c.from-residual.result c.from-residual.ensures.1 in
+    let p = err_from_is_err_and c.from_residual.result c.from_residual.ensures.1 in
     rw (p.1, p.2)
     (record {
-      answer = sheet_refused m c.args.d (refusal_of c.in-err-fit.field-0.0) c.in-err-fit.ensures.answer;
+      answer = sheet_refused m c.args.d (refusal_of c.in_err-fit.field-0.0) c.in_err-fit.ensures.answer;
       carries = c.fit.ensures.carries;
     })

@@ -17,11 +17,11 @@ use Rattle.code.proofs.Asking.{fit_rules, check_refused, check_unfit, check_made
 use Rattle.crc.proofs.Started.{put_start}
 use Rattle.crc.proofs.crc_kind.Crc.write_check.Goals as goal
 
-pub returns-in-err-fit : goal.returns-in-err-fit
-returns-in-err-fit g c =
+pub returns-in_err-fit : goal.returns-in_err-fit
+returns-in_err-fit g c =
     let m = crc_model (g.E.Engine.carries_of c.args.self.now.engine) in
-    let p = err_from_is_err_and c.from-residual.result c.from-residual.ensures.1 in
-    let u = check_refused m c.args.d c.args.message.now (length c.args.out.now) (refusal_of c.in-err-fit.field-0.0) c.in-err-fit.ensures.answer in
+    let p = err_from_is_err_and c.from_residual.result c.from_residual.ensures.1 in
+    let u = check_refused m c.args.d c.args.message.now (length c.args.out.now) (refusal_of c.in_err-fit.field-0.0) c.in_err-fit.ensures.answer in
     rw (p.1, p.2)
     (record {
       answer = sym (ap length_of u);
@@ -29,16 +29,16 @@ returns-in-err-fit g c =
       carries = c.fit.ensures.carries;
     })
 
-pub returns-in-err-fitting : goal.returns-in-err-fitting
-returns-in-err-fitting g c =
+pub returns-in_err-fitting : goal.returns-in_err-fitting
+returns-in_err-fitting g c =
     let m = crc_model (g.E.Engine.carries_of c.args.self.now.engine) in
-    let p = err_from_is_err_and c.from-residual-in-err-fitting.result c.from-residual-in-err-fitting.ensures.1 in
-    let z = refusal_of c.in-err-fitting.field-0.0 in
+    let p = err_from_is_err_and c.from_residual-in_err-fitting.result c.from_residual-in_err-fitting.ensures.1 in
+    let z = refusal_of c.in_err-fitting.field-0.0 in
     let message = c.args.message.now in
     let out = c.args.out.now in
     let f : Err z ≡ success (fit_rules 1 (check_bytes c.args.d.degree) message (length out)) =
-    subst (λ i. Err z ≡ success (fit_rules 1 i message (length out))) c.check_bytes-count.ensures c.in-err-fitting.ensures in
-    let u = check_unfit m c.args.d message (length out) z c.in-ok-fit.ensures.answer f in
+    subst (λ i. Err z ≡ success (fit_rules 1 i message (length out))) c.check_bytes-count.ensures c.in_err-fitting.ensures in
+    let u = check_unfit m c.args.d message (length out) z c.in_ok-fit.ensures.answer f in
     rw (p.1, p.2)
     (record {
       answer = sym (ap length_of u);
@@ -54,10 +54,10 @@ returns g c =
     let message = c.args.message.now in
     let out = c.args.out.now in
     let x = c.fit.new.self.engine in
-    let set = c.in-ok-fit.ensures in
+    let set = c.in_ok-fit.ensures in
     let n : c.from-size.result ≡ check_bytes d.degree = c.from-size.ensures ∙ c.check_bytes-count.ensures in
     let f : Ok tt ≡ success (fit_rules 1 (check_bytes d.degree) message (length out)) =
-    subst (λ i. Ok tt ≡ success (fit_rules 1 i message (length out))) c.check_bytes-count.ensures c.in-ok-fitting.ensures in
+    subst (λ i. Ok tt ≡ success (fit_rules 1 i message (length out))) c.check_bytes-count.ensures c.in_ok-fitting.ensures in
     let k = check_made m d message (length out) set.answer f in
     let v : c.value.result ≡ remainder d.degree d.low message =
     c.value.ensures

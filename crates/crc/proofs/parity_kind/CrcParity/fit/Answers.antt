@@ -11,15 +11,15 @@ use Rattle.crc.proofs.Fitted.{engine_last, made_after}
 use Rattle.code.proofs.ParityLaws.{fit_of}
 use Rattle.crc.proofs.parity_kind.CrcParity.fit.Goals as goal
 
-pub returns-in-err-fields : goal.returns-in-err-fields
-returns-in-err-fields g c =
+pub returns-in_err-fields : goal.returns-in_err-fields
+returns-in_err-fields g c =
     let d = c.args.d in
-    let p = err_from_is_err_and c.from-residual.result c.from-residual.ensures.1 in
+    let p = err_from_is_err_and c.from_residual.result c.from_residual.ensures.1 in
     rw (p.1, p.2)
     (record {
       answer =
           sym (first_rules tt tt (parity_asks d) (rule (g.E.Engine.carries_of c.args.self.now.engine d.degree d.low) (refusal 15 Engine 4) ∷ [])
-          (refusal_of c.in-err-fields.field-0.0) c.in-err-fields.ensures);
+          (refusal_of c.in_err-fields.field-0.0) c.in_err-fields.ensures);
       carries = refl;
       degree = tt;
       low = tt;
@@ -31,7 +31,7 @@ returns g c =
     let e = g.E.Engine in
     let d = c.args.d in
     let x = c.args.self.now.engine in
-    let asked = c.in-ok-fields.ensures in
+    let asked = c.in_ok-fields.ensures in
     let f = fit_of d (kept tt (parity_asks d) (sym asked)) in
     let most : d.degree ≤ 32 = omega (arith, f.degree.most) in
     let set = c.set.ensures in

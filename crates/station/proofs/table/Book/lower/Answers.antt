@@ -19,7 +19,7 @@ returns-in-Some c =
     rw read (sym (take-set-lt b.len b.table i _ h.within)) in
     ap book_of (sym (a.is_narrowed c.args.reach ∙ same))
 
-pub returns-in-default : goal.returns-in-default
-returns-in-default c =
+pub returns-in_default : goal.returns-in_default
+returns-in_default c =
     let b = c.args.self.now in
-    ap book_of (sym ((off (items b).entries c.args.number (sym c.find.ensures.is ∙ c.in-default.is)).is_narrowed c.args.reach))
+    ap book_of (sym ((off (items b).entries c.args.number (sym c.find.ensures.is ∙ c.in_default.is)).is_narrowed c.args.reach))

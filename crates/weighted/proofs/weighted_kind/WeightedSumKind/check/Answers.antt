@@ -12,23 +12,23 @@ use Rattle.code.proofs.WeightedFit.{fit}
 use Rattle.code.proofs.WeightedKeeps.{check_long}
 use Rattle.weighted.proofs.weighted_kind.WeightedSumKind.check.Goals as goal
 
-pub returns-in-err-g : goal.returns-in-err-g
-returns-in-err-g c =
+pub returns-in_err-g : goal.returns-in_err-g
+returns-in_err-g c =
     let out = c.args.out.now in
-    let p = err_from_is_err_and c.from-residual.result c.from-residual.ensures.1 in
-    let e = check_refused weighted_model c.args.d c.args.message.now (length out) (refusal_of c.in-err-g.field-0.0) c.in-err-g.ensures in
+    let p = err_from_is_err_and c.from_residual.result c.from_residual.ensures.1 in
+    let e = check_refused weighted_model c.args.d c.args.message.now (length out) (refusal_of c.in_err-g.field-0.0) c.in_err-g.ensures in
     record { answer = rw (p.1, p.2) (ap length_of (sym e)); written = ap (λ x. written x out) (sym e); same = refl }
 
-pub returns-in-err-fitting : goal.returns-in-err-fitting
-returns-in-err-fitting c =
+pub returns-in_err-fitting : goal.returns-in_err-fitting
+returns-in_err-fitting c =
     let d = c.args.d in
     let message = c.args.message.now in
     let out = c.args.out.now in
-    let z = refusal_of c.in-err-fitting.field-0.0 in
-    let p = err_from_is_err_and c.from-residual-in-err-fitting.result c.from-residual-in-err-fitting.ensures.1 in
+    let z = refusal_of c.in_err-fitting.field-0.0 in
+    let p = err_from_is_err_and c.from_residual-in_err-fitting.result c.from_residual-in_err-fitting.ensures.1 in
     let f : Err z ≡ success (fit_rules d.tuple (2 * d.tuple) message (length out)) =
-    subst (λ n. Err z ≡ success (fit_rules n (2 * n) message (length out))) c.from-tuple.ensures c.in-err-fitting.ensures in
-    let e = check_unfit weighted_model d message (length out) z c.in-ok-g.ensures.0 f in
+    subst (λ n. Err z ≡ success (fit_rules n (2 * n) message (length out))) c.from-tuple.ensures c.in_err-fitting.ensures in
+    let e = check_unfit weighted_model d message (length out) z c.in_ok-g.ensures.0 f in
     record { answer = rw (p.1, p.2) (ap length_of (sym e)); written = ap (λ x. written x out) (sym e); same = refl }
 
 pub returns : goal.returns
@@ -36,9 +36,9 @@ returns c =
     let d = c.args.d in
     let message = c.args.message.now in
     let out = c.args.out.now in
-    let ok = c.in-ok-g.ensures.0 in
+    let ok = c.in_ok-g.ensures.0 in
     let f : Ok tt ≡ success (fit_rules d.tuple (2 * d.tuple) message (length out)) =
-    subst (λ n. Ok tt ≡ success (fit_rules n (2 * n) message (length out))) c.from-tuple.ensures c.in-ok-fitting.ensures in
+    subst (λ n. Ok tt ≡ success (fit_rules n (2 * n) message (length out))) c.from-tuple.ensures c.in_ok-fitting.ensures in
     let e = check_made weighted_model d message (length out) ok f in
     let long : length (weighted_model.check d message) ≡ 2 * d.tuple = check_long d (fit d (kept tt (described_rules weighted_model d) (sym ok)).1) message in
     record {
