@@ -3,7 +3,7 @@
 use Rattle.std.proofs.Common.{◌≡◌, ℕ, ◌+◌, ◌%◌, ◌&&◌, eqb, ltb, leb, List, length, Ok, Result, sym, ap, ◌∙◌}
 use Rattle.answer.specs.declared.fault.Layer.TheVariants.{Frame}
 use Rattle.answer.specs.Refusal.{Refusal, refusal}
-use Rattle.answer.specs.Rules.{goal}
+use Rattle.answer.specs.Rules.{need}
 use Rattle.code.specs.declared.description.Sheet.{Sheet}
 use Rattle.code.specs.Model.{Asked, asked, length_of, written}
 use Rattle.station.specs.declared.entry.Entry.{Entry}
@@ -12,11 +12,11 @@ use Rattle.station.proofs.Chains.{then_at}
 use Rattle.station.proofs.sealing.seal_by.Goals as goal
 
 sealed-frame : (a : Asked) (e : Entry) (n : ℕ) (message : List ℕ) (room : ℕ) (s : Sheet) (c : List ℕ) → Ok s ≡ a.sheet e.description
-    → Ok tt ≡ goal (ltb 0 (length message) && eqb (length message % s.tuple) 0) (refusal 31 Frame (length message))
-    → Ok tt ≡ goal (leb (length message + s.check) e.reach) (refusal 32 Frame 12)
-    → Ok tt ≡ goal (leb (16 + (length message + s.check)) room) (refusal 33 Frame room)
+    → Ok tt ≡ need (ltb 0 (length message) && eqb (length message % s.tuple) 0) (refusal 31 Frame (length message))
+    → Ok tt ≡ need (leb (length message + s.check) e.reach) (refusal 32 Frame 12)
+    → Ok tt ≡ need (leb (16 + (length message + s.check)) room) (refusal 33 Frame room)
     → Ok c ≡ a.check e.description message 64
-    → Ok tt ≡ goal (eqb (length c) s.check) (refusal 33 Frame room)
+    → Ok tt ≡ need (eqb (length c) s.check) (refusal 33 Frame room)
     → sealed_by a e n message room ≡ Ok (frame n e.description message c)
 sealed-frame a e n message room s c p1 p2 p3 p4 p5 p6 =
     then_at (a.sheet e.description) s _ p1 ∙ then_at _ tt _ p2 ∙ then_at _ tt _ p3 ∙ then_at _ tt _ p4

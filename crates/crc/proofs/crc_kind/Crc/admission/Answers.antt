@@ -39,4 +39,4 @@ invariant_of-result g c =
     let d = c.args.d in
     let carries = g.E.Engine.carries_of c.args.self.now.engine in
     let f = fit_of carries d (kept tt (described_rules (crc_model carries) d) (sym c.in_ok-fit.ensures.answer)) in
-    (f.small, (f.constant, (far_of d c.args.reach (kept tt (crc_reaches d c.args.reach) (sym c.in_ok-crc_reaches.ensures)), tt)))
+    record { small = f.small; constant = f.constant; far = far_of d c.args.reach (kept tt (crc_reaches d c.args.reach) (sym c.in_ok-crc_reaches.ensures)) }
