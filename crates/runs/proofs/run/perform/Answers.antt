@@ -9,13 +9,13 @@ use Rattle.runs.specs.Outcomes.{plain_call}
 use Rattle.runs.proofs.Runs.{wrote_copy, tried_copy}
 use Rattle.runs.proofs.run.perform.Goals as goal
 
-pub returns-in_ok-copy : goal.returns-in_ok-copy
-returns-in_ok-copy g c =
+pub returns-in_ok-copy-in-Seal : goal.returns-in_ok-copy-in-Seal
+returns-in_ok-copy-in-Seal g c =
     let a = asked (g.K.Kind.model c.args.station.now.bank) in
     let b = items c.args.station.now.book in
     let s = c.seal-answer in
-    let copy = c.in_ok-copy.copy in
-    let same = c.as_mut_slice.ensures.value ∙ c.in_ok-copy.ensures.items-if-clones-equal (λ x y h. h) in
+    let copy = c.in_ok-copy-in-Seal.copy in
+    let same = c.as_mut_slice.ensures.value ∙ c.in_ok-copy-in-Seal.ensures.items_if_clones_equal (λ x y h. h) in
     let long : length s.new.out ≡ copy.len = search rules in
     record {
       answer =
@@ -27,13 +27,13 @@ returns-in_ok-copy g c =
       bank = s.ensures.bank;
     }
 
-pub returns-in_ok-copy-2 : goal.returns-in_ok-copy-2
-returns-in_ok-copy-2 g c =
+pub returns-in_ok-copy-in-Trial : goal.returns-in_ok-copy-in-Trial
+returns-in_ok-copy-in-Trial g c =
     let a = asked (g.K.Kind.model c.args.station.now.bank) in
     let b = items c.args.station.now.book in
     let s = c.trial-answer in
-    let copy = c.in_ok-copy-2.copy in
-    let same = c.as_mut_slice-in-Trial.ensures.value ∙ c.in_ok-copy-2.ensures.items-if-clones-equal (λ x y h. h) in
+    let copy = c.in_ok-copy-in-Trial.copy in
+    let same = c.as_mut_slice-in-Trial.ensures.value ∙ c.in_ok-copy-in-Trial.ensures.items_if_clones_equal (λ x y h. h) in
     let long : length s.new.frame ≡ copy.len = search rules in
     record {
       answer =
