@@ -80,7 +80,7 @@ pub(crate) fn put_hex(out: &mut Vec<u8>, bytes: &[u8])
     ensures len { vec_len out.new ≡ vec_len out.old + 2 * length bytes.now }
     ensures capacity { vec_capacity out.new ≡ vec_capacity out.old }
 {
-    let none = Vec::new(out.allocator());
+    let none = Vec::new(*out.allocator());
     let text = replace(out, none);
     replace(out, with_hex(text, bytes)).destroy_empty();
 }

@@ -17,7 +17,7 @@ fn obey_all<K: Kind>(
     input: &[u8],
     out: &mut Vec<u8>,
 ) -> Result<(), AllocError>
-    ensures printed { OnOk result (out.new.items ≡ out.old.items ++ transcript_from (asked (model console.old.station.bank)) 1 (items console.old.station.book) (lines_of input.now)) }
+    ensures printed { OnOk result (out.new.items ≡ out.old.items ++ transcript_from (asked (K.model console.old.station.bank)) 1 (items console.old.station.book) (lines_of input.now)) }
     ensures needs { input.now ≡ [] → is_ok result ≡ true }
 {
     let mut rest = input;
