@@ -1,6 +1,6 @@
 -- Rules in their order: a call is refused by the first that is broken, and does its work where none is.
 -- Assumes nothing.
-use Rattle.std.specs.Prelude.{◌≡◌, ℕ, Bool, true, false, cond, List, [], ◌∷◌, ◌++◌, Ok, Err, Result}
+use Rattle.std.specs.Prelude.{Bool, cond, List, [], ◌∷◌, Ok, Err, Result}
 use Rattle.answer.specs.Refusal.{Refusal}
 
 -- A rule: what it asks, and the refusal where that fails.

@@ -1,12 +1,11 @@
 -- How the answers of a kind's calls come together: from the rules on the description, and then from those on the reach or the message.
 -- Assumes nothing.
-use Rattle.std.proofs.Common.{◌≡◌, ℕ, leb, List, [], ◌∷◌, ◌++◌, length, Ok, Err, Result, sym, ◌∙◌}
+use Rattle.std.proofs.Common.{◌≡◌, ℕ, leb, List, [], ◌∷◌, length, Ok, Err, Result, sym, ◌∙◌}
 use Rattle.answer.specs.declared.fault.Layer.TheVariants.{Frame}
 use Rattle.answer.specs.Refusal.{Refusal, refusal}
 use Rattle.answer.specs.Rules.{Rule, rule}
 use Rattle.answer.proofs.Ruled.{passes, refuses, then_rules, first_rules}
 use Rattle.code.specs.declared.description.Description.{Description}
-use Rattle.code.specs.declared.description.Sheet.{Sheet}
 use Rattle.code.specs.Answered.{success}
 use Rattle.code.specs.Model.{Model, asked, described_rules, whole}
 

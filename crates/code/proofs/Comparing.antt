@@ -8,8 +8,7 @@ use Rattle.answer.proofs.Ruled.{Kept, ok_value}
 use Rattle.words.specs.Flips.{Bytes}
 use Rattle.code.specs.declared.description.Description.{Description}
 use Rattle.code.specs.declared.description.Sheet.{Sheet}
-use Rattle.code.specs.Model.{Model, asked, described_rules, whole, Fits, Matches, MeansTheSame}
-use Rattle.code.specs.Bank.{joined}
+use Rattle.code.specs.Model.{Model, asked, described_rules, whole, Fits, Matches}
 use Rattle.code.specs.CrcModel.{check_bytes, crc_asks, crc_reaches, crc_model}
 use Rattle.code.specs.ParityModel.{parity_asks, parity_model}
 use Rattle.code.specs.Compared.{JoinedAnswers, JoinedMatches, JoinedMeansTheSame, CrcMatches, CrcMeansTheSame, ParityMatches, ParityMeansTheSame, SameMatches, MatchesReflexive, MatchesSymmetric, MatchesNotTransitive, MatchesSame, SameReflexive, SameSymmetric, SameTransitive}

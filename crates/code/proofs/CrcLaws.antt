@@ -1,22 +1,21 @@
 -- Kind 1 keeps the two laws, whatever its engine carries.
 -- Assumes nothing.
-use Rattle.std.proofs.Common.{◌≡◌, ℕ, ◌+◌, ◌*◌, ◌/◌, ◌%◌, ◌^◌, ◌<◌, ◌≤◌, Bool, true, false, cond, ◌||◌, eqb, ltb, leb, ◌⊎◌, List, [], ◌∷◌, ◌++◌, length, Ok, Err, Result, sym, refl, ap, ◌∙◌, subst, inl, inr, arith}
+use Rattle.std.proofs.Common.{◌≡◌, ℕ, ◌+◌, ◌*◌, ◌%◌, ◌^◌, ◌<◌, ◌≤◌, Bool, true, false, cond, eqb, List, [], ◌∷◌, ◌++◌, sym, refl, subst, inl, inr, arith}
 use native.Mathlib.Nat.{mod-one}
-use Rattle.std.proofs.lemmas.Bool.{and_parts, or_cases, eqb-true, ltb-true, leb-true, cases_Bool}
+use Rattle.std.proofs.lemmas.Bool.{or_cases, eqb-true}
 use Rattle.answer.specs.declared.fault.Layer.TheVariants.{Engine}
-use Rattle.answer.specs.Refusal.{Refusal, refusal}
-use Rattle.answer.specs.Rules.{rule, by_rules}
+use Rattle.answer.specs.Refusal.{refusal}
+use Rattle.answer.specs.Rules.{rule}
 use Rattle.answer.proofs.Ruled.{Kept, kept, kept_append}
 use Rattle.poly.specs.Poly.{terms, remainder}
 use Rattle.poly.specs.Period.{NoReturn}
-use Rattle.words.specs.Flips.{Bytes, Notices}
+use Rattle.words.specs.Flips.{Notices}
 use Rattle.words.specs.Words.{Crc}
 use Rattle.words.proofs.DigitBytes.{length_digits, bytes_digits}
 use Rattle.words.proofs.Checks.{crc-lt, crc-word}
 use Rattle.words.proofs.Words.{crc_notices, crc_even_notices}
 use Rattle.code.specs.declared.description.Description.{Description}
-use Rattle.code.specs.Model.{Model, Admits, Keeps, Word, described_rules}
-use Rattle.code.specs.Fields.{proper_low, period_at_least, lawful_reach}
+use Rattle.code.specs.Model.{Admits, Keeps, Word, described_rules}
 use Rattle.code.specs.CrcModel.{check_bytes, crc_degree, crc_asks, crc_reaches, even_terms, crc_model}
 use Rattle.code.proofs.Far.{far}
 use Rattle.code.proofs.FieldRules.{proper_low_lem, lawful_reach_lem}

@@ -1,6 +1,6 @@
 -- Kind 2 keeps the two laws, whatever its engine carries.
 -- Assumes nothing.
-use Rattle.std.proofs.Common.{◌≡◌, ℕ, suc, ◌+◌, ◌-◌, ◌*◌, ◌/◌, ◌%◌, ◌^◌, ◌<◌, ◌≤◌, Bool, true, false, cond, ◌||◌, eqb, ◌⊎◌, List, [], ◌∷◌, ◌++◌, Ok, Result, sym, refl, ap, ◌∙◌, subst, inl, inr, arith}
+use Rattle.std.proofs.Common.{◌≡◌, ℕ, suc, ◌+◌, ◌-◌, ◌*◌, ◌%◌, ◌^◌, ◌<◌, ◌≤◌, Bool, true, eqb, List, [], ◌∷◌, ◌++◌, sym, subst, inl, inr, arith}
 use native.Mathlib.Nat.{mod-one}
 use Rattle.std.proofs.lemmas.Bool.{or_cases, eqb-true}
 use Rattle.answer.specs.declared.fault.Layer.TheVariants.{Engine}
@@ -9,13 +9,12 @@ use Rattle.answer.specs.Rules.{rule}
 use Rattle.answer.proofs.Ruled.{Kept, kept, kept_append}
 use Rattle.poly.specs.Poly.{terms, remainder}
 use Rattle.poly.specs.Period.{NoReturn}
-use Rattle.words.specs.Flips.{Bytes, Notices}
 use Rattle.words.specs.Words.{CrcParity}
 use Rattle.words.proofs.DigitBytes.{length_digits, bytes_digits}
 use Rattle.words.proofs.Checks.{parity_lt, parity_word}
 use Rattle.words.proofs.Words.{crc_parity_notices}
 use Rattle.code.specs.declared.description.Description.{Description}
-use Rattle.code.specs.Model.{Model, Admits, Keeps, Word, described_rules}
+use Rattle.code.specs.Model.{Admits, Keeps, Word, described_rules}
 use Rattle.code.specs.CrcModel.{check_bytes, crc_reaches}
 use Rattle.code.specs.ParityModel.{parity_degree, parity_asks, even_bit, parity_model}
 use Rattle.code.proofs.CrcLaws.{far_of}

@@ -1,6 +1,6 @@
 -- A text that is not equal to another, as a test.
 -- Assumes nothing.
-use Rattle.std.proofs.Common.{◌≡◌, ℕ, Bool, true, false, List, Decides, sym, rules}
+use Rattle.std.proofs.Common.{◌≡◌, ℕ, Bool, false, List, Decides, sym, rules}
 use Rattle.std.specs.Str.{bytes_eq}
 use Rattle.std.proofs.lemmas.Slice.Eq.{bytes_eq-Decides}
 

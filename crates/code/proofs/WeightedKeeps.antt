@@ -1,6 +1,6 @@
 -- Kind 3 keeps the two laws.
 -- Assumes nothing.
-use Rattle.std.proofs.Common.{◌≡◌, ℕ, suc, ◌+◌, ◌-◌, ◌*◌, ◌/◌, ◌%◌, ◌^◌, ◌<◌, ◌≤◌, true, List, length, sym, refl, ap, ◌∙◌, subst, ap₂, lt_of_lt_of_le, le-div_iff_mul-le, div-le_self, arith, length-append, pow_mono}
+use Rattle.std.proofs.Common.{◌≡◌, ℕ, suc, ◌+◌, ◌-◌, ◌*◌, ◌/◌, ◌^◌, ◌<◌, ◌≤◌, true, List, length, sym, refl, ap, ◌∙◌, subst, ap₂, lt_of_lt_of_le, le-div_iff_mul-le, div-le_self, arith, length-append, pow_mono}
 use native.Mathlib.Nat.{div-add-mod, mul-mod_left}
 use lib.Bits.{bit_xor}
 use Rattle.std.proofs.ByRecursion.{All-append}

@@ -1,13 +1,12 @@
 -- Kind 1, the CRC: the check is the remainder of the message.
 -- Assumes nothing.
-use Rattle.std.specs.Prelude.{ℕ, ◌+◌, ◌*◌, ◌/◌, ◌%◌, Bool, true, false, cond, ◌||◌, List, [], ◌∷◌, ◌++◌, ◌==◌}
+use Rattle.std.specs.Prelude.{ℕ, ◌+◌, ◌*◌, ◌/◌, ◌%◌, Bool, cond, ◌||◌, List, [], ◌∷◌, ◌++◌, ◌==◌}
 use Rattle.answer.specs.declared.fault.Layer.TheVariants.{Kind, Engine}
 use Rattle.answer.specs.Refusal.{refusal}
 use Rattle.answer.specs.Rules.{Rule, rule}
 use Rattle.poly.specs.Poly.{terms, remainder}
 use Rattle.words.specs.Digits.{digits}
 use Rattle.code.specs.declared.description.Description.{Description}
-use Rattle.code.specs.declared.description.Sheet.{Sheet}
 use Rattle.code.specs.Model.{Model}
 use Rattle.code.specs.Fields.{proper_low, period_at_least, lawful_reach}
 

@@ -1,6 +1,6 @@
 -- What a kind means, what it answers, the laws of every kind, and when two kinds match or mean the same.
 -- Assumes nothing.
-use Rattle.std.specs.Prelude.{◌≡◌, ℕ, ◌+◌, ◌%◌, ◌^◌, ◌<◌, ◌≤◌, Bool, true, false, cond, ◌&&◌, List, [], ◌∷◌, ◌++◌, length, drop, Ok, Err, Result, ◌==◌, nat_le, nat_lt}
+use Rattle.std.specs.Prelude.{◌≡◌, ℕ, ◌+◌, ◌%◌, ◌^◌, ◌<◌, ◌≤◌, Bool, ◌&&◌, List, [], ◌∷◌, ◌++◌, length, drop, Ok, Err, Result, ◌==◌, nat_le, nat_lt}
 use Rattle.std.specs.List.{AllByRecursion as All}
 use Rattle.answer.specs.declared.fault.Layer.TheVariants.{Kind, Frame}
 use Rattle.answer.specs.Refusal.{Refusal, refusal}

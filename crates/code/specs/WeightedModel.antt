@@ -9,7 +9,6 @@ use Rattle.words.specs.Words.{weighted, plain}
 use Rattle.words.specs.Digits.{digits}
 use Rattle.words.specs.Tuples.{tuples}
 use Rattle.code.specs.declared.description.Description.{Description}
-use Rattle.code.specs.declared.description.Sheet.{Sheet}
 use Rattle.code.specs.Model.{Model}
 use Rattle.code.specs.Fields.{proper_low, period_at_least, lawful_reach}
 

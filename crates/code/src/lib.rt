@@ -1,4 +1,6 @@
 // Kinds of code: descriptions, sheets, the trait of kinds, banks, how kinds compare, and the catalogue.
+#![tactic(auto)]
+
 pub mod bank;
 pub mod by_hand;
 pub mod bytes;

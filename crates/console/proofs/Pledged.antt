@@ -1,11 +1,11 @@
 -- What the line program promises.
 -- Assumes nothing.
-use Rattle.std.proofs.Common.{◌≡◌, ℕ, ◌+◌, ◌≤◌, List, map, length, get_or, drop, Some, Ok, Err, Result, sym, ap, ◌∙◌, subst, inl, inr, arith}
-use Rattle.answer.specs.Refusal.{Refusal, refusal}
-use Rattle.code.specs.Model.{Model, asked, length_of, written, Keeps}
+use Rattle.std.proofs.Common.{◌≡◌, ℕ, ◌≤◌, List, map, length, get_or, drop, Some, Ok, Err, Result, sym, ap, ◌∙◌, subst, inl, inr, arith}
+use Rattle.answer.specs.Refusal.{Refusal}
+use Rattle.code.specs.Model.{Model, asked, length_of, written}
 use Rattle.station.specs.declared.entry.Entry.{Entry}
 use Rattle.station.specs.Book.{PlainBook, held}
-use Rattle.station.specs.Calls.{Call, Answer, wrote, answer, book_after}
+use Rattle.station.specs.Calls.{Answer, wrote, book_after}
 use Rattle.runs.specs.Ruling.{GoesBy, works, refuses, FirstBroken, Unrefused, seal_rules, Written}
 use Rattle.runs.proofs.Admitted.{all_held}
 use Rattle.runs.proofs.EveryCall.{answers_by_rules, runs_by_rules, held_unrefused}

@@ -1,6 +1,6 @@
 -- Hexadecimal digits as bytes.
 -- Assumes nothing.
-use Rattle.std.specs.Prelude.{ℕ, ◌+◌, ◌-◌, ◌*◌, Bool, cond, ◌&&◌, List, [], ◌∷◌, nat_le}
+use Rattle.std.specs.Prelude.{ℕ, ◌+◌, ◌-◌, ◌*◌, cond, ◌&&◌, List, [], ◌∷◌, nat_le}
 
 -- The value of a digit: 0 to 9 for 0 to 9, 10 to 15 for A to F. (0 for any other byte, which no command has among its digits.)
 abbrev pub digit_value : ℕ → ℕ

@@ -1,6 +1,6 @@
 -- What a line does: the call that it makes, if any.
 -- Assumes nothing.
-use Rattle.std.specs.Prelude.{ℕ, ◌+◌, ◌*◌, List, [], ◌∷◌, drop, replicate, Ok, Err, Result, slice_index}
+use Rattle.std.specs.Prelude.{ℕ, ◌+◌, ◌*◌, List, drop, replicate, Ok, Err, Result, slice_index}
 use Rattle.answer.specs.Refusal.{Refusal}
 use Rattle.code.specs.declared.description.Description.{Description}
 use Rattle.station.specs.declared.entry.Entry.{Entry}

@@ -1,4 +1,6 @@
 // The line program's library.
+#![tactic(auto)]
+
 mod answers;
 pub mod console;
 mod decode;

@@ -1,6 +1,6 @@
 -- The engine is asked last: where all before it is kept, set is refused exactly by what the engine does not carry.
 -- Assumes nothing.
-use Rattle.std.proofs.Common.{◌≡◌, ℕ, ◌%◌, ◌^◌, ◌<◌, ◌≤◌, Bool, true, ◌&&◌, eqb, ltb, leb, List, [], ◌∷◌, ◌++◌, IfOk, Ok, Err, Result, sym, refl, ◌∙◌}
+use Rattle.std.proofs.Common.{◌≡◌, ℕ, ◌%◌, ◌^◌, ◌<◌, ◌≤◌, Bool, List, [], ◌∷◌, ◌++◌, IfOk, Ok, Err, Result, sym}
 use Rattle.std.proofs.lemmas.Bool.{le-leb, lt-ltb, eq-eqb}
 use Rattle.answer.specs.declared.fault.Layer.TheVariants.{Engine}
 use Rattle.answer.specs.Refusal.{Refusal, refusal, if_ok}

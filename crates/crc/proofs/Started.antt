@@ -1,6 +1,6 @@
 -- A check as a number, at the start of an output.
 -- Assumes nothing.
-use Rattle.std.proofs.Common.{◌≡◌, ℕ, ◌+◌, ◌*◌, ◌^◌, ◌<◌, ◌≤◌, List, ◌++◌, length, drop, sym, ap, ◌∙◌, ap₂, zero-add, arith}
+use Rattle.std.proofs.Common.{◌≡◌, ℕ, ◌*◌, ◌^◌, ◌<◌, ◌≤◌, List, ◌++◌, length, drop, sym, ap, ◌∙◌, ap₂, zero-add, arith}
 use Rattle.words.specs.Digits.{digits}
 use Rattle.words.proofs.DigitBytes.{length_digits}
 use Rattle.code.specs.Output.{with_number}

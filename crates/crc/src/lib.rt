@@ -1,4 +1,6 @@
 // Kinds 1 and 2, the CRC and the CRC with parity, over any engine.
+#![tactic(auto)]
+
 pub mod admitted_crc;
 pub mod crc_asked;
 pub mod crc_kind;

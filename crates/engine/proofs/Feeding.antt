@@ -1,6 +1,6 @@
 -- Feeding bytes to a register, as a division and as the engines do it.
 -- Assumes nothing.
-use Rattle.std.proofs.Common.{◌≡◌, ℕ, zero, suc, ◌+◌, ◌-◌, ◌*◌, ◌/◌, ◌%◌, ◌^◌, ◌<◌, ◌≤◌, List, [], ◌∷◌, ◌++◌, length, get_or, take, sym, refl, ap, ◌∙◌, subst, ap₂, append_assoc, append-nil, mod-lt, mul_assoc, mul_comm, one-mul, zero-mul, sub-add_cancel, arith, pow_pos, pow-add, shl_lt, shr_lt, Bor}
+use Rattle.std.proofs.Common.{◌≡◌, ℕ, suc, ◌+◌, ◌-◌, ◌*◌, ◌/◌, ◌%◌, ◌^◌, ◌<◌, ◌≤◌, List, [], ◌∷◌, ◌++◌, length, get_or, take, sym, refl, ap, ◌∙◌, subst, ap₂, append_assoc, append-nil, mod-lt, mul_assoc, mul_comm, one-mul, zero-mul, sub-add_cancel, arith, pow_pos, pow-add, shr_lt, Bor}
 use native.Mathlib.Nat.{mul-div-mul_right}
 use lib.Bits.{bit_xor, xor_comm, xor_assoc, xor_lt, xor_shifted}
 use Rattle.std.proofs.lemmas.List.{take_more}

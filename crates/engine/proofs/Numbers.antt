@@ -1,8 +1,8 @@
 -- The rule of a table of remainders, by one test over all its entries.
 -- Assumes nothing.
-use Rattle.std.proofs.Common.{◌≡◌, ℕ, ◌*◌, ◌^◌, ◌<◌, Bool, T, eqb, List, get_or, eqb→eq}
+use Rattle.std.proofs.Common.{ℕ, ◌*◌, ◌^◌, Bool, T, eqb, List, get_or, eqb→eq}
 use Rattle.poly.specs.Poly.{rem}
-use Rattle.engine.specs.Tables.{Entries, Fixed}
+use Rattle.engine.specs.Tables.{Fixed}
 use Rattle.engine.proofs.Below.{passes, holds}
 
 -- entry a is the remainder of a × X^k

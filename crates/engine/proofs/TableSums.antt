@@ -1,11 +1,11 @@
 -- A table filled by sums: entry a is the remainder of a times the first one.
 -- Assumes nothing.
-use Rattle.std.proofs.Common.{◌≡◌, ℕ, ◌+◌, ◌*◌, ◌^◌, ◌<◌, ◌≤◌, ◌≢◌, ◌⊎◌, List, length, get_or, set, sym, refl, ap, ◌∙◌, subst, ap₂, inl, inr, mul_assoc, one-mul, mul-one, arith, get_or-set_other, get_or-set_same, pow-add}
+use Rattle.std.proofs.Common.{◌≡◌, ℕ, ◌+◌, ◌*◌, ◌^◌, ◌<◌, ◌≤◌, ◌≢◌, List, length, get_or, set, sym, ap, ◌∙◌, ap₂, inl, inr, mul_assoc, one-mul, mul-one, arith, get_or-set_other, get_or-set_same, pow-add}
 use lib.Bits.{bit_xor, xor_shifted}
 use Rattle.std.proofs.lemmas.Bool.{cases_eq}
-use Rattle.poly.specs.Poly.{clmul, rem, generator}
-use Rattle.poly.proofs.Product.{xor_cancel_r, clmul_zero_l, clmul_xor_l, clmul_shl_l, clmul_shl_r, clmul_one_l, clmul_comm}
-use Rattle.poly.proofs.Division.{shl_is, rem-xor, rem-zero, rem-mul, rem-shl, rem-small, rem_unique}
+use Rattle.poly.specs.Poly.{clmul, rem}
+use Rattle.poly.proofs.Product.{clmul_zero_l, clmul_xor_l, clmul_shl_l, clmul_shl_r, clmul_one_l, clmul_comm}
+use Rattle.poly.proofs.Division.{shl_is, rem-xor, rem-zero, rem-mul, rem-shl, rem-small}
 
 module _ (h low : ℕ) (small : low < 2 ^ h) where
   -- ---- a table by sums: entry a is that of a times the first

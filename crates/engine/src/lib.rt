@@ -1,4 +1,6 @@
 // Engines that work out remainders byte by byte, and running checks over them.
+#![tactic(auto)]
+
 pub mod bitwise;
 pub mod bitwise_engine;
 pub mod engine;

@@ -1,6 +1,6 @@
 -- The sum of bytes is their remainder by X^8 + 1, since X^8 leaves 1.
 -- Assumes nothing.
-use Rattle.std.specs.Prelude.{◌≡◌, ℕ, zero, suc, ◌+◌, ◌*◌, ◌^◌, ◌<◌, List, [], ◌∷◌, length, bit_xor}
+use Rattle.std.specs.Prelude.{◌≡◌, ℕ, zero, suc, ◌*◌, ◌^◌, ◌<◌, List, [], ◌∷◌, length, bit_xor}
 use Rattle.std.proofs.Common.{sym, ap, ap₂, subst, ◌∙◌, mul-one, mul_assoc, mul-suc, lit<, pow-add}
 use Rattle.std.specs.Int.Bits.{xor_shifted, xor_zero_l}
 use Rattle.poly.specs.Poly.{clmul, generator, rem, string, remainder}

@@ -1,2 +1,4 @@
 // A kind of one's own, as an example.
+#![tactic(auto)]
+
 pub mod longitudinal;

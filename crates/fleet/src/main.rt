@@ -1,5 +1,7 @@
 // Two stations whose books disagree: a set-up tool saved a 24-bit code under a number that the other site holds as a 16-bit one.
 // All six calls are made at both, faults are planted, and what was done and answered is printed in words.
+#![tactic(auto)]
+
 mod say;
 
 use answer::fault::Fault;

@@ -1,4 +1,6 @@
 // Commands on standard input, their transcript on standard output: a station with kinds 1 to 3, the first two over the table engine.
+#![tactic(auto)]
+
 ghost use Rattle.std.specs.Prelude.{◌≡◌, IfOk};
 ghost use Rattle.code.specs.Model.{asked};
 ghost use Rattle.engine.specs.Meaning.{carries_all};

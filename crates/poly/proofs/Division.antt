@@ -1,12 +1,12 @@
 -- Division by a generator: the remainder is there, is one, and is what `rem` works out; and the laws of `rem`.
 -- Assumes nothing.
-use Rattle.std.proofs.Common.{◌≡◌, ℕ, zero, suc, ◌+◌, ◌-◌, ◌*◌, ◌/◌, ◌%◌, ◌^◌, ◌<◌, ◌≤◌, sym, refl, ap, ◌∙◌, subst, ap₂, suc-le-suc, zero-le, le_trans, le_of_eq, le_refl, lt_of_lt_of_le, not-suc-le-zero, add-zero, mod-lt, mod-eq_of_lt, zero-lt-suc, mul_assoc, mul_comm, div-lt_iff_lt-mul, add-mul, one-mul, pow-suc, mul-zero, zero-add, zero-mul, mul-one, sub-add_cancel, mul-div_cancel, arith, lit<, pow_pos, pow_mono, pow-add, shl_lt, shr_lt}
+use Rattle.std.proofs.Common.{◌≡◌, ℕ, zero, suc, ◌+◌, ◌*◌, ◌/◌, ◌%◌, ◌^◌, ◌<◌, sym, refl, ap, ◌∙◌, subst, ap₂, lt_of_lt_of_le, not-suc-le-zero, add-zero, mod-lt, zero-lt-suc, div-lt_iff_lt-mul, one-mul, pow-suc, zero-mul, arith, pow_pos, pow_mono, shl_lt, shr_lt}
 use native.Mathlib.Nat.{zero-div, div-eq_of_lt, mul-div-mul_right, div-div-eq-div-mul}
 use lib.Arith.{bin_ind, lt-one, digits_lt}
-use lib.Pow.{split, high, shl-shr}
-use lib.Bits.{bit_xor, xor_zero_r, xor_comm, xor_assoc, xor_self, xor_shr, xor_mod, xor_lt, xor_shifted}
+use lib.Pow.{high}
+use lib.Bits.{bit_xor, xor_zero_r, xor_assoc, xor_self, xor_shr, xor_lt, xor_shifted}
 use Rattle.poly.specs.Poly.{by_bits, horner, clmul, generator, Remainder, reduce, rem}
-use Rattle.poly.proofs.Product.{by_bits-step, xor-shl, xor_left_comm, xor_swap, xor_cancel, xor_cancel_r, xor-eq, xor_parts, bit_cases, clmul_zero_l, clmul-step, clmul-bit, clmul_xor_l, clmul_xor_r, clmul_shl_l, clmul_shl_r, clmul_one_r, clmul_comm, clmul_assoc}
+use Rattle.poly.proofs.Product.{by_bits-step, xor-shl, xor_left_comm, xor_swap, xor_cancel_r, xor-eq, xor_parts, bit_cases, clmul_zero_l, clmul-step, clmul-bit, clmul_xor_l, clmul_shl_l, clmul_shl_r, clmul_one_r, clmul_comm, clmul_assoc}
 
 two_pos : zero < 2
 two_pos = zero-lt-suc 1

@@ -1,11 +1,11 @@
 -- The laws of Horner's scheme over bits, of the sum by `bit_xor` and of the product `clmul`.
 -- Assumes nothing.
-use Rattle.std.proofs.Common.{◌≡◌, ℕ, zero, suc, ◌+◌, ◌-◌, ◌*◌, ◌/◌, ◌%◌, ◌^◌, ◌<◌, ◌≤◌, sym, refl, ap, ◌∙◌, subst, ap₂, suc-le-suc, zero-le, le_refl, le_of_suc-le-suc, not-suc-le-zero, add-zero, mod-lt, zero-lt-suc, mul_assoc, mul_comm, one-mul, pow-suc, mul-zero, div-add-mod', zero-add, zero-mul, mul-one, mul-div_cancel, arith, lit<, pow_pos, pow-add}
+use Rattle.std.proofs.Common.{◌≡◌, ℕ, zero, suc, ◌+◌, ◌*◌, ◌/◌, ◌%◌, ◌^◌, ◌<◌, ◌≤◌, sym, refl, ap, ◌∙◌, ap₂, le_refl, le_of_suc-le-suc, not-suc-le-zero, add-zero, mod-lt, zero-lt-suc, mul_assoc, one-mul, pow-suc, mul-zero, zero-mul, mul-one, mul-div_cancel, arith, lit<, pow_pos}
 use native.Mathlib.Nat.{mod-one, mul-mod_left}
 use native.Mathlib.Decide.{le_ind}
-use lib.Arith.{half_le, bin_ind, lt-one}
+use lib.Arith.{half_le, bin_ind}
 use lib.Pow.{split, mod-pow-add}
-use lib.Bits.{bit_xor, xor_step, xor_zero_l, xor_zero_r, xor_comm, xor_assoc, xor_self, xor_block, xor_shr, xor_mod, xor_lt, xor_shifted}
+use lib.Bits.{bit_xor, xor_zero_r, xor_comm, xor_assoc, xor_self, xor_block, xor_shr, xor_mod, xor_shifted}
 use Rattle.poly.specs.Poly.{horner, by_bits, clmul}
 
 two_pos : zero < 2

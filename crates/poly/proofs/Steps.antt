@@ -1,6 +1,6 @@
 -- What one step of long division comes to: X times a residue, and one more bit of the dividend.
 -- Assumes nothing.
-use Rattle.std.proofs.Common.{◌≡◌, ℕ, zero, suc, ◌+◌, ◌-◌, ◌*◌, ◌/◌, ◌%◌, ◌^◌, ◌<◌, ◌≤◌, ◌≢◌, sym, refl, ap, ◌∙◌, subst, ap₂, lt_of_lt_of_le, mod-lt, zero-lt-suc, mul_assoc, one-mul, pow-suc, zero-mul, mul-one, add-one, arith, pow_pos, pow_mono, shr_lt}
+use Rattle.std.proofs.Common.{◌≡◌, ℕ, suc, ◌+◌, ◌-◌, ◌*◌, ◌/◌, ◌%◌, ◌^◌, ◌<◌, ◌≤◌, ◌≢◌, sym, ap, ◌∙◌, subst, ap₂, lt_of_lt_of_le, mod-lt, zero-lt-suc, mul_assoc, one-mul, pow-suc, zero-mul, mul-one, add-one, arith, pow_mono, shr_lt}
 use native.Mathlib.Nat.{div-eq_of_lt, div-div-eq-div-mul}
 use lib.Bits.{bit_xor, xor_zero_r}
 use Rattle.poly.specs.Poly.{rem, reduce, generator}

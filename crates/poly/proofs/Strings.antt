@@ -1,6 +1,6 @@
 -- Strings of digits as polynomials: one digit more, and strings joined.
 -- Assumes nothing.
-use Rattle.std.proofs.Common.{◌≡◌, ℕ, suc, ◌+◌, ◌*◌, ◌^◌, List, [], ◌∷◌, ◌++◌, length, sym, refl, ap, ◌∙◌, ap₂, mul_assoc, add_comm, mul-zero, zero-mul, mul-one, mul-suc, pow-add}
+use Rattle.std.proofs.Common.{◌≡◌, ℕ, suc, ◌*◌, ◌^◌, List, [], ◌∷◌, ◌++◌, length, sym, refl, ap, ◌∙◌, mul_assoc, add_comm, mul-zero, zero-mul, mul-one, mul-suc, pow-add}
 use lib.Bits.{bit_xor, xor_zero_r, xor_assoc}
 use Rattle.poly.specs.Poly.{string}
 use Rattle.poly.proofs.Product.{xor-shl}

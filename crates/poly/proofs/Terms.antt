@@ -1,6 +1,6 @@
 -- The terms of X^h + low are X^h and those of low.
 -- Assumes nothing.
-use Rattle.std.proofs.Common.{◌≡◌, ℕ, ◌+◌, ◌*◌, ◌^◌, ◌<◌, sym, refl, ap, ◌∙◌, one-mul}
+use Rattle.std.proofs.Common.{◌≡◌, ℕ, ◌+◌, ◌^◌, ◌<◌, sym, refl, ap, ◌∙◌, one-mul}
 use lib.Count.{ones, ones_cat}
 use Rattle.poly.specs.Poly.{terms}
 

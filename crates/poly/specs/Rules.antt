@@ -1,6 +1,6 @@
 -- Which degrees and low parts make a generator.
 -- Assumes nothing.
-use Rattle.std.specs.Prelude.{ℕ, ◌%◌, ◌^◌, Bool, ◌&&◌, List, [], ◌∷◌, Ok, Err, Result, ◌==◌, nat_le, nat_lt}
+use Rattle.std.specs.Prelude.{ℕ, ◌%◌, ◌^◌, ◌&&◌, List, [], ◌∷◌, Ok, Err, Result, ◌==◌, nat_le, nat_lt}
 use Rattle.answer.specs.declared.fault.Layer.TheVariants.{Engine}
 use Rattle.answer.specs.declared.fault.Fault.{Fault}
 use Rattle.answer.specs.Refusal.{Refusal, refusal, refusal_of}

@@ -1,4 +1,6 @@
 // Polynomials modulo 2: generators, remainders and periods.
+#![tactic(auto)]
+
 pub mod claims;
 pub mod generator;
 pub mod long_division;

@@ -1,5 +1,7 @@
 // What each published generator is, which engines carry it, and what it leaves of some messages, by every engine that carries it;
 // and what each published code promises, admits and writes.
+#![tactic(auto)]
+
 mod codes;
 mod engines;
 mod generators;

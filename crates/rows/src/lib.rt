@@ -1,3 +1,5 @@
+#![tactic(auto)]
+
 // The example of every row of the table of answers, through the call that gives it. There is no code here but the tests.
 #[cfg(test)]
 mod engines;

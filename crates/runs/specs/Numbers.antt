@@ -3,7 +3,7 @@
 use Rattle.std.specs.Prelude.{◌≡◌, ℕ, Bool, true, false, ◌||◌, List, [], ◌∷◌, ◌==◌}
 use Rattle.answer.specs.Refusal.{number_of}
 use Rattle.code.specs.Model.{Model, asked, Keeps, Numbered}
-use Rattle.station.specs.Calls.{enter, narrow, retire, Call, change, ask, seal, take, trial, Answer, done, wrote, handed, tried, answer, answers_from, book_after}
+use Rattle.station.specs.Calls.{enter, narrow, retire, Call, change, ask, seal, take, trial, Answer, done, wrote, handed, tried, answer, book_after}
 
 -- A number stands in a list.
 abbrev pub among : List ℕ → ℕ → Bool

@@ -1,6 +1,6 @@
 -- What stations promise one another, over every list of calls and every pair of banks that keep the two laws.
 -- Assumes nothing.
-use Rattle.std.specs.Prelude.{◌≡◌, ℕ, ◌+◌, ◌<◌, ◌≤◌, Bool, true, false, cond, ◌↔◌, List, [], ◌∷◌, ◌++◌, length, take, drop, is_ok, Some, None, Ok, Err, Result, ◌==◌, bit_xor, slice_index}
+use Rattle.std.specs.Prelude.{◌≡◌, ℕ, ◌+◌, ◌<◌, ◌≤◌, false, cond, ◌↔◌, List, [], ◌∷◌, length, take, drop, is_ok, Some, None, Ok, Err, Result, ◌==◌, bit_xor, slice_index}
 use Rattle.std.specs.List.{AllByRecursion as All}
 use Rattle.answer.specs.declared.fault.Layer.TheVariants.{Book, Frame}
 use Rattle.answer.specs.Refusal.{Refusal, refusal}

@@ -1,4 +1,6 @@
 // The engine that slices by sixteen: a step takes sixteen bytes through as many tables.
+#![tactic(auto)]
+
 pub mod agreeing;
 mod at_top;
 mod blocks;

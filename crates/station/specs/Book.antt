@@ -1,6 +1,6 @@
 -- The plain book: which numbers are held, with which description and reach.
 -- Assumes nothing.
-use Rattle.std.specs.Prelude.{ℕ, cond, List, [], ◌∷◌, ◌++◌, length, Some, None, Option, ◌==◌}
+use Rattle.std.specs.Prelude.{ℕ, cond, List, [], ◌∷◌, ◌++◌, Some, None, Option, ◌==◌}
 use Rattle.code.specs.declared.description.Description.{Description}
 use Rattle.station.specs.declared.entry.Entry.{Entry}
 

@@ -1,14 +1,13 @@
 -- The calls of a station, the plain book that they make, and what each answers.
 -- A call changes the book (enter, narrow, retire) or asks (seal, take, trial).
 -- Assumes nothing.
-use Rattle.std.specs.Prelude.{◌≡◌, ℕ, ◌^◌, ◌<◌, Bool, true, false, cond, not, List, [], ◌∷◌, ◌++◌, length, is_some, Ok, Err, Result, nat_lt, slice_set}
+use Rattle.std.specs.Prelude.{ℕ, ◌^◌, ◌<◌, Bool, true, false, not, List, [], ◌∷◌, length, is_some, Ok, Result, nat_lt, slice_set}
 use Rattle.answer.specs.declared.fault.Layer.TheVariants.{Book, Frame}
 use Rattle.answer.specs.Refusal.{Refusal, refusal, if_ok}
 use Rattle.answer.specs.Rules.{then, need}
 use Rattle.words.specs.Flips.{Bytes}
 use Rattle.code.specs.declared.description.Description.{Description}
 use Rattle.code.specs.Model.{Asked, Fits, length_of, written}
-use Rattle.station.specs.declared.entry.Entry.{Entry}
 use Rattle.station.specs.Book.{PlainBook, empty_book, entry_of, held, entered, narrowed, retired}
 use Rattle.station.specs.Frame.{entry_at, sealed, taken}
 

@@ -1,4 +1,6 @@
 // Stations: frames, the book, and the calls over them.
+#![tactic(auto)]
+
 mod book;
 mod ccitt;
 mod checking;

@@ -1,6 +1,8 @@
 // What each published generator is, which engines carry it, and what it leaves of some messages, by every engine that carries it;
 // what each published code promises, admits and writes, over every engine; what is published of other generators; and every refusal of a
 // line and of a station.
+#![tactic(auto)]
+
 mod answer_rows;
 mod answers;
 mod codes;

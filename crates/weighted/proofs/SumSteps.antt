@@ -1,11 +1,10 @@
 -- One step of each sum of tuples.
 -- Assumes nothing.
-use Rattle.std.proofs.Common.{◌≡◌, ℕ, suc, ◌+◌, ◌-◌, ◌*◌, ◌/◌, ◌%◌, ◌^◌, ◌<◌, ◌≤◌, List, [], ◌∷◌, ◌++◌, map, length, take, drop, sym, refl, ap, ◌∙◌, subst, ap₂, mod-lt, mul-le-mul_left, one-mul, zero-mul, mul-suc, add-one, arith, pow_pos, pow-add, shr_lt}
-use native.Mathlib.Nat.{zero-div, mul-div-mul_right, add-div_right, add-mod_right, div-add-mod, lt_of_mul-lt-mul_left}
-use lib.Bits.{bit_xor, xor_comm, xor_lt}
+use Rattle.std.proofs.Common.{◌≡◌, ℕ, suc, ◌+◌, ◌*◌, ◌/◌, ◌%◌, ◌^◌, ◌<◌, ◌≤◌, List, [], ◌∷◌, ◌++◌, map, length, take, drop, sym, ap, ◌∙◌, ap₂, mul-le-mul_left, mul-suc, add-one, arith}
+use native.Mathlib.Nat.{zero-div, add-div_right, add-mod_right, div-add-mod, lt_of_mul-lt-mul_left}
+use lib.Bits.{bit_xor}
 use Rattle.std.proofs.lemmas.List.{map_push}
 use Rattle.poly.specs.Poly.{rem, string}
-use Rattle.poly.proofs.Product.{bit_cases, xor_parts}
 use Rattle.poly.proofs.Division.{rem-xor, rem-zero, rem-small, rem-shl}
 use Rattle.words.specs.Words.{weighted, plain}
 use Rattle.words.specs.Tuples.{groups}

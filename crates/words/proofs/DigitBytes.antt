@@ -1,6 +1,6 @@
 -- A number in k bytes, high byte first.
 -- Assumes nothing.
-use Rattle.std.proofs.Common.{◌≡◌, ℕ, zero, suc, ◌+◌, ◌-◌, ◌*◌, ◌/◌, ◌%◌, ◌^◌, ◌<◌, List, [], ◌∷◌, length, get_or, sym, refl, ap, ◌∙◌, subst, ap₂, mod-lt, add_comm, mul-suc, arith, pow_pos, shr_lt}
+use Rattle.std.proofs.Common.{◌≡◌, ℕ, zero, suc, ◌+◌, ◌-◌, ◌*◌, ◌/◌, ◌%◌, ◌^◌, ◌<◌, length, get_or, sym, refl, ap, ◌∙◌, subst, ap₂, mod-lt, arith, pow_pos, shr_lt}
 use lib.Pow.{shr_mod, field, mod-mod-pow}
 use lib.Bits.{bit_xor}
 use Rattle.poly.specs.Poly.{string}

@@ -1,6 +1,6 @@
 -- The ones of a string, modulo 2, byte by byte.
 -- Assumes nothing.
-use Rattle.std.proofs.Common.{◌≡◌, ℕ, ◌+◌, ◌*◌, ◌%◌, ◌^◌, ◌<◌, List, [], ◌∷◌, ◌++◌, length, get_or, take, sym, refl, ap, ◌∙◌, arith}
+use Rattle.std.proofs.Common.{◌≡◌, ℕ, ◌+◌, ◌*◌, ◌%◌, ◌^◌, ◌<◌, List, length, get_or, take, ap, ◌∙◌, arith}
 use lib.Bits.{bit_xor}
 use lib.Count.{ones}
 use Rattle.std.proofs.lemmas.List.{take_more}

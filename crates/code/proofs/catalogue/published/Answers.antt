@@ -1,6 +1,6 @@
 -- A name that is none of the published ones.
 -- Assumes nothing.
-use Rattle.std.proofs.Common.{codes, rules}
+use Rattle.std.proofs.Common.{codes}
 use Rattle.code.proofs.Texts.{differs}
 use Rattle.code.proofs.catalogue.published.Goals as goal
 

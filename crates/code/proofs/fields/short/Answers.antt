@@ -1,6 +1,6 @@
 -- A number of 32 bits is below 2 ^ degree where the degree is 32 or more, or where nothing is left from the degree on.
 -- Assumes nothing.
-use Rattle.std.proofs.Common.{◌≡◌, ◌/◌, ◌^◌, ◌<◌, true, false, eqb, ltb, sym, ◌∙◌, inl, inr, lt_of_lt_of_le, arith, pow_mono}
+use Rattle.std.proofs.Common.{◌/◌, ◌^◌, sym, ◌∙◌, inl, inr, lt_of_lt_of_le, arith, pow_mono}
 use native.Mathlib.Nat.{div-eq_of_lt}
 use Rattle.std.proofs.lemmas.Bool.{lt-ltb, le-ltb, eq-eqb, ne_eqb, cases_lt}
 use Rattle.poly.proofs.Division.{lt_of_high}

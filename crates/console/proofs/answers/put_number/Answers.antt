@@ -1,6 +1,6 @@
 -- The number, the space, the answer number.
 -- Assumes nothing.
-use Rattle.std.proofs.Common.{◌≡◌, [], ◌∷◌, ◌++◌, vec_items, ap, ◌∙◌, arith}
+use Rattle.std.proofs.Common.{[], ◌∷◌, ◌++◌, vec_items, ap, ◌∙◌, arith}
 use Rattle.console.specs.Print.{decimal}
 use Rattle.console.proofs.Puts.{after}
 use Rattle.console.proofs.answers.put_number.Goals as goal

@@ -1,6 +1,6 @@
 -- The bytes that take is given are those of the digits.
 -- Assumes nothing.
-use Rattle.std.proofs.Common.{◌≡◌, ℕ, ◌-◌, ◌≤◌, List, length, take, ap, ◌∙◌, arith, length-take}
+use Rattle.std.proofs.Common.{◌≡◌, ◌-◌, ◌≤◌, length, take, ap, ◌∙◌, arith, length-take}
 use Rattle.code.specs.Model.{asked}
 use Rattle.station.specs.Frame.{taken}
 use Rattle.station.specs.Items.{items}

@@ -1,6 +1,6 @@
 -- At most 20 digits.
 -- Assumes nothing.
-use Rattle.std.proofs.Common.{arith, rules}
+use Rattle.std.proofs.Common.{rules}
 use Rattle.std.proofs.lemmas.Fmt.{length-decimal-le}
 use Rattle.console.proofs.print.put_decimal.Goals as goal
 

@@ -1,6 +1,6 @@
 -- X^h is one term more than the low part has.
 -- Assumes nothing.
-use Rattle.std.proofs.Common.{arith, rules}
+use Rattle.std.proofs.Common.{rules}
 use Rattle.poly.proofs.Terms.{terms_is}
 use Rattle.crc.proofs.crc_kind.even_terms.Goals as goal
 

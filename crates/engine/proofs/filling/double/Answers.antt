@@ -1,6 +1,6 @@
 -- The upper half of each power of two from the lower.
 -- Assumes nothing.
-use Rattle.std.proofs.Common.{◌≡◌, ℕ, ◌+◌, ◌-◌, ◌*◌, ◌/◌, ◌%◌, ◌^◌, ◌<◌, ◌≤◌, List, length, get_or, set, sym, refl, ap, ◌∙◌, ap₂, arith, length-set, get_or-set_same, pow_pos, pow_mono, pow-add, shl_lt}
+use Rattle.std.proofs.Common.{◌≡◌, ℕ, ◌+◌, ◌-◌, ◌*◌, ◌/◌, ◌%◌, ◌^◌, ◌<◌, ◌≤◌, length, get_or, set, sym, refl, ap, ◌∙◌, ap₂, arith, length-set, get_or-set_same, pow_pos, pow_mono, pow-add, shl_lt}
 use lib.Pow.{shl-shr}
 use Rattle.std.proofs.lemmas.Nat.{one_shl}
 use Rattle.poly.specs.Poly.{rem, clmul}

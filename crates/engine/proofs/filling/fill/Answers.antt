@@ -1,6 +1,6 @@
 -- Entry a stands in the row a / 32 and the column a % 32.
 -- Assumes nothing.
-use Rattle.std.proofs.Common.{◌≡◌, ℕ, ◌+◌, ◌*◌, ◌/◌, ◌%◌, ◌^◌, ◌<◌, ◌≤◌, ◌⊎◌, get_or, sym, ap, ◌∙◌, subst, inl, inr, mul_assoc, arith, shl_lt}
+use Rattle.std.proofs.Common.{◌≡◌, ℕ, ◌+◌, ◌*◌, ◌/◌, ◌%◌, ◌^◌, ◌<◌, ◌≤◌, get_or, sym, ap, ◌∙◌, subst, inl, inr, mul_assoc, arith, shl_lt}
 use Rattle.std.proofs.lemmas.Bool.{cases_eq}
 use Rattle.poly.specs.Poly.{rem, clmul}
 use Rattle.poly.proofs.Division.{rem_lt, rem-shl}

@@ -1,6 +1,6 @@
 -- One entry after the other.
 -- Assumes nothing.
-use Rattle.std.proofs.Common.{◌≡◌, ℕ, ◌+◌, ◌*◌, ◌<◌, ◌≤◌, get_or, refl, ap, ◌∙◌, arith}
+use Rattle.std.proofs.Common.{get_or, refl, ap, ◌∙◌, arith}
 use lib.Bits.{bit_xor}
 use Rattle.engine.proofs.TableSums.{spread_first, spread_write}
 use Rattle.engine.proofs.filling.spread.Goals as goal

@@ -1,6 +1,6 @@
 -- One look-up is one step of the division.
 -- Assumes nothing.
-use Rattle.std.proofs.Common.{◌≡◌, ◌-◌, ◌*◌, ◌/◌, ◌%◌, ◌^◌, ap, ◌∙◌}
+use Rattle.std.proofs.Common.{◌-◌, ◌*◌, ◌/◌, ◌%◌, ◌^◌, ap, ◌∙◌}
 use lib.Bits.{bit_xor}
 use Rattle.engine.proofs.Feeding.{looked_up_lem, fed_bound}
 use Rattle.engine.proofs.look_up.look_up.Goals as goal

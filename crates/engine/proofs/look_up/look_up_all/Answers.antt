@@ -1,6 +1,6 @@
 -- One byte more, and in the end all of them.
 -- Assumes nothing.
-use Rattle.std.proofs.Common.{◌≡◌, refl, ap, ◌∙◌, arith}
+use Rattle.std.proofs.Common.{refl, ap, ◌∙◌, arith}
 use Rattle.std.proofs.lemmas.List.{take_all}
 use Rattle.engine.specs.Feed.{fed_all}
 use Rattle.engine.proofs.Feeding.{fed_all_more}

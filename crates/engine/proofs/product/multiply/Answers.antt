@@ -1,6 +1,6 @@
 -- One product is one step of the division.
 -- Assumes nothing.
-use Rattle.std.proofs.Common.{◌≡◌, ◌-◌, ◌*◌, ◌/◌, ◌%◌, ◌^◌, ◌<◌, ◌≤◌, sym, ap, ◌∙◌, subst, ap₂, lt_of_lt_of_le, arith, pow_mono}
+use Rattle.std.proofs.Common.{◌-◌, ◌*◌, ◌/◌, ◌%◌, ◌^◌, ◌<◌, ◌≤◌, sym, ap, ◌∙◌, subst, lt_of_lt_of_le, arith, pow_mono}
 use lib.Bits.{bit_xor}
 use Rattle.poly.specs.Poly.{clmul}
 use Rattle.engine.proofs.Feeding.{multiplied, fed_bound}

@@ -1,6 +1,6 @@
 -- After a set that is not refused, the register of the fed engine is the remainder of the message.
 -- Assumes nothing.
-use Rattle.std.proofs.Common.{◌≡◌, ℕ, Ok, Result, ap, ◌∙◌}
+use Rattle.std.proofs.Common.{◌≡◌, ℕ, Result, ap, ◌∙◌}
 use Rattle.answer.specs.Refusal.{Refusal}
 use Rattle.answer.specs.Rules.{by_rules}
 use Rattle.answer.proofs.Ruled.{passes}

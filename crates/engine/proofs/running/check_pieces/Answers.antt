@@ -1,6 +1,6 @@
 -- One piece more, and in the end all of them.
 -- Assumes nothing.
-use Rattle.std.proofs.Common.{◌≡◌, take, sym, ap, ◌∙◌, ap₂, arith}
+use Rattle.std.proofs.Common.{take, sym, ap, ◌∙◌, ap₂, arith}
 use Rattle.std.proofs.lemmas.List.{take_all}
 use Rattle.poly.specs.Poly.{remainder}
 use Rattle.engine.specs.Pieces.{flat}

@@ -1,6 +1,6 @@
 -- One byte more, and in the end all of them.
 -- Assumes nothing.
-use Rattle.std.proofs.Common.{◌≡◌, ℕ, get_or, take, sym, ap, ◌∙◌, arith}
+use Rattle.std.proofs.Common.{ℕ, get_or, take, sym, ap, ◌∙◌, arith}
 use lib.Bits.{bit_xor}
 use Rattle.std.proofs.lemmas.List.{take_more, take_all}
 use Rattle.words.specs.Words.{plain}

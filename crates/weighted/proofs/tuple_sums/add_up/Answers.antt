@@ -1,11 +1,11 @@
 -- One tuple a turn, and in the end all of them.
 -- Assumes nothing.
-use Rattle.std.proofs.Common.{◌≡◌, ℕ, ◌*◌, ◌/◌, ◌^◌, ◌<◌, map, length, sym, ap, ◌∙◌, subst, ap₂, arith}
+use Rattle.std.proofs.Common.{◌≡◌, ℕ, ◌/◌, ◌^◌, ◌<◌, map, length, sym, ap, ◌∙◌, subst, ap₂, arith}
 use native.Mathlib.Nat.{zero-mod}
 use Rattle.poly.specs.Poly.{rem, string}
 use Rattle.poly.proofs.Division.{rem_lt}
 use Rattle.words.specs.Words.{weighted, plain}
-use Rattle.words.specs.Tuples.{groups, tuples}
+use Rattle.words.specs.Tuples.{groups}
 use Rattle.code.proofs.WeightedFit.{sized}
 use Rattle.weighted.proofs.WeightedCheck.{low_fits}
 use Rattle.weighted.proofs.SumSteps.{tuple_fits, whole_more, plain_more, weighted_more, weighted-none, plain-none}

@@ -1,6 +1,6 @@
 -- A few bytes as a number.
 -- Assumes nothing.
-use Rattle.std.proofs.Common.{◌≡◌, ℕ, ◌*◌, ◌^◌, ◌<◌, ◌⊎◌, take, drop, sym, ap, ◌∙◌, subst, inl, inr, arith}
+use Rattle.std.proofs.Common.{◌≡◌, ℕ, ◌*◌, ◌^◌, ◌<◌, take, drop, sym, ap, ◌∙◌, subst, inl, inr, arith}
 use Rattle.poly.specs.Poly.{string}
 use Rattle.words.specs.Tuples.{Size}
 use Rattle.words.proofs.NumberBytes.{one_byte, two_bytes, four_bytes}

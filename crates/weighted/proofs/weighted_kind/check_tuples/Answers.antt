@@ -1,6 +1,6 @@
 -- The sums of the tuples, each reduced once more.
 -- Assumes nothing.
-use Rattle.std.proofs.Common.{◌≡◌, ℕ, List, ap, ◌∙◌}
+use Rattle.std.proofs.Common.{ℕ, List, ap, ◌∙◌}
 use Rattle.words.specs.Tuples.{tuples}
 use Rattle.code.specs.WeightedModel.{first_sum, second_sum}
 use Rattle.weighted.proofs.WeightedCheck.{first_is, second_is}

@@ -1,6 +1,6 @@
 -- A refusal of the first rules is the answer, and so is that of the next where the first are kept.
 -- Assumes nothing.
-use Rattle.std.proofs.Common.{◌≡◌, eqb, List, [], ◌∷◌, drop, sym, ◌∙◌}
+use Rattle.std.proofs.Common.{eqb, List, [], ◌∷◌, drop, sym, ◌∙◌}
 use Rattle.std.proofs.lemmas.Result.{err_from_is_err_and}
 use Rattle.answer.specs.declared.fault.Layer.TheVariants.{Kind}
 use Rattle.answer.specs.Refusal.{refusal, refusal_of}

@@ -1,6 +1,6 @@
 -- Both check tuples fit their bytes, and stand one after the other.
 -- Assumes nothing.
-use Rattle.std.proofs.Common.{◌≡◌, ℕ, ◌*◌, ◌^◌, ◌<◌, ◌≤◌, List, ◌++◌, drop, sym, ap, ◌∙◌, subst, ap₂, arith, pow_mono}
+use Rattle.std.proofs.Common.{ℕ, ◌*◌, ◌^◌, ◌<◌, ◌≤◌, List, ◌++◌, drop, sym, ap, ◌∙◌, ap₂, arith, pow_mono}
 use Rattle.words.specs.Digits.{digits}
 use Rattle.words.specs.Tuples.{tuples}
 use Rattle.words.proofs.DigitBytes.{length_digits}

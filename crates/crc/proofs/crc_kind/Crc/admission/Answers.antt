@@ -1,6 +1,6 @@
 -- What kind 1 admits.
 -- Assumes nothing.
-use Rattle.std.proofs.Common.{◌≡◌, Err, sym, ap, ◌∙◌}
+use Rattle.std.proofs.Common.{Err, sym}
 use Rattle.std.proofs.lemmas.Result.{err_from_is_err_and}
 use Rattle.answer.specs.Refusal.{refusal_of}
 use Rattle.answer.proofs.Ruled.{kept}

@@ -1,6 +1,6 @@
 -- A broken rule of the fields is the answer; the engine is asked last.
 -- Assumes nothing.
-use Rattle.std.proofs.Common.{◌≡◌, ◌≤◌, [], ◌∷◌, sym, refl, ◌∙◌, arith}
+use Rattle.std.proofs.Common.{◌≤◌, [], ◌∷◌, sym, refl, ◌∙◌, arith}
 use Rattle.std.proofs.lemmas.Result.{err_from_is_err_and}
 use Rattle.answer.specs.declared.fault.Layer.TheVariants.{Engine}
 use Rattle.answer.specs.Refusal.{refusal, refusal_of}

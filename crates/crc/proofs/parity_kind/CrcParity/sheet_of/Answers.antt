@@ -1,6 +1,5 @@
 -- The sheet of kind 2, where the description is refused.
 -- Assumes nothing.
-use Rattle.std.proofs.Common.{ap}
 use Rattle.std.proofs.lemmas.Result.{err_from_is_err_and}
 use Rattle.answer.specs.Refusal.{refusal_of}
 use Rattle.code.specs.ParityModel.{parity_model}

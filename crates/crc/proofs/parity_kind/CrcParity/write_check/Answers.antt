@@ -1,12 +1,12 @@
 -- The check of kind 2: the remainder and the parity bit in bytes, at the start of the output.
 -- Assumes nothing.
-use Rattle.std.proofs.Common.{◌≡◌, ℕ, ◌+◌, ◌*◌, ◌%◌, List, [], ◌∷◌, length, Ok, Err, Result, sym, ap, ◌∙◌, subst, arith}
+use Rattle.std.proofs.Common.{◌≡◌, ℕ, ◌+◌, ◌*◌, ◌%◌, [], ◌∷◌, length, Ok, Err, Result, sym, ap, ◌∙◌, subst, arith}
 use lib.Count.{ones}
 use Rattle.std.proofs.lemmas.Result.{err_from_is_err_and}
 use Rattle.std.proofs.lemmas.Bool.{leb-true}
 use Rattle.answer.specs.declared.fault.Layer.TheVariants.{Engine}
 use Rattle.answer.specs.Refusal.{Refusal, refusal, refusal_of}
-use Rattle.answer.specs.Rules.{Rule, rule}
+use Rattle.answer.specs.Rules.{rule}
 use Rattle.answer.proofs.Ruled.{kept, kept_append}
 use Rattle.poly.specs.Poly.{polynomial, remainder}
 use Rattle.engine.proofs.Feeding.{fed_message}
