@@ -8,17 +8,17 @@ use Rattle.answer.proofs.Ruled.{Kept, ok_value}
 use Rattle.words.specs.Flips.{Bytes}
 use Rattle.code.specs.declared.description.Description.{Description}
 use Rattle.code.specs.declared.description.Sheet.{Sheet}
-use Rattle.code.specs.Model.{Model, asked, described_rules, whole, Fits, Matches}
+use Rattle.code.specs.Model.{Model, asked, described_rules, whole, Fits, MatchesForCallers}
 use Rattle.code.specs.CrcModel.{check_bytes, crc_asks, crc_reaches, crc_model}
 use Rattle.code.specs.ParityModel.{parity_asks, parity_model}
-use Rattle.code.specs.Compared.{JoinedAnswers, JoinedMatches, JoinedMeansTheSame, CrcMatches, CrcMeansTheSame, ParityMatches, ParityMeansTheSame, SameMatches, MatchesReflexive, MatchesSymmetric, MatchesNotTransitive, MatchesSame, SameReflexive, SameSymmetric, SameTransitive}
+use Rattle.code.specs.Compared.{JoinedAnswers, JoinedMatchesForCallers, JoinedMeansTheSameForCallers, CrcMatchesForCallers, CrcMeansTheSameForCallers, ParityMatchesForCallers, ParityMeansTheSameForCallers, SameMatchesForCallers, MatchesReflexiveForCallers, MatchesSymmetricForCallers, MatchesNotTransitiveForCallers, MatchesSameForCallers, SameReflexiveForCallers, SameSymmetricForCallers, SameTransitiveForCallers}
 use Rattle.code.proofs.CrcLaws.{fit_asked as crc-fit}
 use Rattle.code.proofs.ParityLaws.{fit_of as parity-fit}
 use Rattle.code.specs.Joined.{sides}
 
 -- ---- the two relations
 
-pub same_reflexive : SameReflexive
+pub same_reflexive : SameReflexiveForCallers
 same_reflexive a = record {
   serve = λ k l. refl;
   admissions = λ d f reach l. refl;
@@ -26,7 +26,7 @@ same_reflexive a = record {
   checks = λ d f message bytes room. refl;
 }
 
-pub same_symmetric : SameSymmetric
+pub same_symmetric : SameSymmetricForCallers
 same_symmetric a b m = record {
   serve = λ k l. sym (m.serve k l);
   admissions = λ d f reach l. sym (m.admissions d f reach l);
@@ -34,7 +34,7 @@ same_symmetric a b m = record {
   checks = λ d f message bytes room. sym (m.checks d f message bytes room);
 }
 
-pub same_transitive : SameTransitive
+pub same_transitive : SameTransitiveForCallers
 same_transitive a b c m n = record {
   serve = λ k l. m.serve k l ∙ n.serve k l;
   admissions = λ d f reach l. m.admissions d f reach l ∙ n.admissions d f reach l;
@@ -45,28 +45,28 @@ same_transitive a b c m n = record {
 one_value : {A : Type 0} (x : Result A Refusal) (s t : A) → x ≡ Ok s → x ≡ Ok t → s ≡ t
 one_value x s t p q = cc
 
-pub matches_reflexive : MatchesReflexive
+pub matches_reflexive : MatchesReflexiveForCallers
 matches_reflexive a = record {
   serve = λ k l. refl;
   sheets = λ d f s t p q. one_value ((asked a).sheet d) s t p q;
   checks = λ d f message bytes room x y p q. one_value ((asked a).check d message room) x y p q;
 }
 
-pub matches_symmetric : MatchesSymmetric
+pub matches_symmetric : MatchesSymmetricForCallers
 matches_symmetric a b m = record {
   serve = λ k l. sym (m.serve k l);
   sheets = λ d f s t p q. sym (m.sheets d f t s q p);
   checks = λ d f message bytes room x y p q. sym (m.checks d f message bytes room y x q p);
 }
 
-pub matches_same : MatchesSame
+pub matches_same : MatchesSameForCallers
 matches_same a b c m n = record {
   serve = λ k l. m.serve k l ∙ n.serve k l;
   sheets = λ d f s t p q. m.sheets d f s t p (n.sheets d f ∙ q);
   checks = λ d f message bytes room x y p q. m.checks d f message bytes room x y p (n.checks d f message bytes room ∙ q);
 }
 
-pub same_matches : SameMatches
+pub same_matches : SameMatchesForCallers
 same_matches a b n = matches_same a a b (matches_reflexive a) n
 
 -- a kind that serves every number under some rules, with a sheet of t in every field
@@ -82,7 +82,7 @@ some_kind rules t = record {
 never : List Rule
 never = rule false (refusal 12 Kind 3) ∷ []
 
-refuses_match : (t u : ℕ) → Matches (some_kind never t) (some_kind [] u)
+refuses_match : (t u : ℕ) → MatchesForCallers (some_kind never t) (some_kind [] u)
 unfolding some_kind never
 refuses_match t u = record {
   serve = λ k l. refl;
@@ -91,7 +91,7 @@ refuses_match t u = record {
 }
 
 -- sheets of 1 and of 2 match that of a kind that refuses, and not each other
-pub matches_not_transitive : MatchesNotTransitive
+pub matches_not_transitive : MatchesNotTransitiveForCallers
 unfolding some_kind
 matches_not_transitive chain =
     let one = matches_symmetric (some_kind never 1) (some_kind [] 1) (refuses_match 1 1) in
@@ -122,7 +122,7 @@ pub values_match : (a b : Model)
     → ((k : ℕ) → a.serves k ≡ b.serves k)
     → ((d : Description) → a.sheet d ≡ b.sheet d)
     → ((d : Description) (message : List ℕ) → Bytes message → a.check d message ≡ b.check d message)
-    → Matches a b
+    → MatchesForCallers a b
 values_match a b serve sheets checks = record {
   serve = λ k l. serve k;
   sheets = λ d f s t p q. sheet_value a d s p ∙ sheets d ∙ sym (sheet_value b d t q);
@@ -147,11 +147,11 @@ fit_rules_lem : ℕ → List ℕ → ℕ → List Rule
 fit_rules_lem check message room =
     rule (whole 1 message) (refusal 31 Frame (length message)) ∷ rule (leb check room) (refusal 33 Frame room) ∷ []
 
-pub crc_matches : CrcMatches
+pub crc_matches : CrcMatchesForCallers
 crc_matches p q = values_match (crc_model p) (crc_model q) (λ k. refl) (λ d. refl) (λ d message bytes. refl)
 
 -- the engine is asked of generators alone
-pub crc_means_the_same : CrcMeansTheSame
+pub crc_means_the_same : CrcMeansTheSameForCallers
 unfolding fit_rules_lem
 crc_means_the_same p q e = record {
   serve = λ k l. refl;
@@ -168,10 +168,10 @@ crc_means_the_same p q e = record {
     agree : (d : Description) → Kept (crc_asks d) → p d.degree d.low ≡ q d.degree d.low
     agree d k = let f = crc-fit d k in e d.degree d.low f.degree.least f.degree.most f.small f.constant
 
-pub parity_matches : ParityMatches
+pub parity_matches : ParityMatchesForCallers
 parity_matches p q = values_match (parity_model p) (parity_model q) (λ k. refl) (λ d. refl) (λ d message bytes. refl)
 
-pub parity_means_the_same : ParityMeansTheSame
+pub parity_means_the_same : ParityMeansTheSameForCallers
 unfolding fit_rules_lem
 parity_means_the_same p q e = record {
   serve = λ k l. refl;
@@ -211,7 +211,7 @@ sides_agree false true x y u v s t e f g p q = g p (cc)
 sides_same : {A : Type 0} {b c : Bool} {x y u v : A} → b ≡ c → x ≡ u → y ≡ v → cond b x y ≡ cond c u v
 sides_same p q r = cc
 
-pub joined_matches : JoinedMatches
+pub joined_matches : JoinedMatchesForCallers
 joined_matches a b c d m n = record {
   serve = λ k l. let p = m.serve k l in let q = n.serve k l in cc;
   sheets = λ e f s t p q.
@@ -226,7 +226,7 @@ joined_matches a b c d m n = record {
       (sym ((joined-answers a b).checks e message room) ∙ p) (sym ((joined-answers c d).checks e message room) ∙ q);
 }
 
-pub joined_means_the_same : JoinedMeansTheSame
+pub joined_means_the_same : JoinedMeansTheSameForCallers
 joined_means_the_same a b c d m n = record {
   serve = λ k l. let p = m.serve k l in let q = n.serve k l in cc;
   admissions = λ e f reach l.

@@ -123,14 +123,14 @@ pub record Fits (d : Description) : Type 0 where
   pub tuple : d.tuple < 2 ^ 8
 
 -- Two kinds match: they serve the same numbers, and where neither refuses they give equal sheets and checks.
-pub record Matches (a b : Model) : Type 0 where
+pub record MatchesForCallers (a b : Model) : Type 0 where
   pub serve : (k : ℕ) → k < 2 ^ 8 → a.serves k ≡ b.serves k
   pub sheets : (d : Description) → Fits d → (s t : Sheet) → (asked a).sheet d ≡ Ok s → (asked b).sheet d ≡ Ok t → s ≡ t
   pub checks : (d : Description) → Fits d → (message : List ℕ) → Bytes message → (room : ℕ) (x y : List ℕ)
       → (asked a).check d message room ≡ Ok x → (asked b).check d message room ≡ Ok y → x ≡ y
 
 -- Two kinds mean the same: equal answers to everything.
-pub record MeansTheSame (a b : Model) : Type 0 where
+pub record MeansTheSameForCallers (a b : Model) : Type 0 where
   pub serve : (k : ℕ) → k < 2 ^ 8 → a.serves k ≡ b.serves k
   pub admissions : (d : Description) → Fits d → (reach : ℕ) → reach < 2 ^ 16 → (asked a).admission d reach ≡ (asked b).admission d reach
   pub sheets : (d : Description) → Fits d → (asked a).sheet d ≡ (asked b).sheet d

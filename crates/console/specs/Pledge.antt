@@ -2,7 +2,7 @@
 -- Assumes nothing.
 use Rattle.std.specs.Prelude.{◌≡◌, ℕ, suc, List, ◌∷◌, ◌++◌, map, Err}
 use Rattle.answer.specs.Refusal.{Refusal}
-use Rattle.code.specs.Model.{Model, Asked, asked, Keeps, MeansTheSame}
+use Rattle.code.specs.Model.{Model, Asked, asked, Keeps, MeansTheSameForCallers}
 use Rattle.station.specs.Book.{PlainBook, empty_book}
 use Rattle.station.specs.Calls.{Call, wrote, answer, book_after, answers_from}
 use Rattle.runs.specs.Pledge.{StationsPromise}
@@ -35,7 +35,7 @@ LineByLine =
 
 -- Banks that mean the same print the same of every input.
 abbrev pub PrintedAlike : Type 0
-PrintedAlike = (a b : Model) → MeansTheSame a b → (input : List ℕ) → transcript_of (asked a) input ≡ transcript_of (asked b) input
+PrintedAlike = (a b : Model) → MeansTheSameForCallers a b → (input : List ℕ) → transcript_of (asked a) input ≡ transcript_of (asked b) input
 
 -- What `transcript` promises.
 pub record LinesPromise : Type 0 where

@@ -8,14 +8,14 @@ use Rattle.code.specs.Model.{Asked, asked}
 use Rattle.engine.specs.Meaning.{carries_all}
 use Rattle.station.specs.Book.{PlainBook}
 use Rattle.station.specs.Calls.{Change, enter, narrow, retire, Call, change, book_after}
-use Rattle.runs.specs.Pledge.{three_kinds}
+use Rattle.runs.specs.Pledge.{three_kinds_over}
 use Rattle.exports_station.specs.declared.form.Code.{Code}
 use Rattle.exports_station.specs.declared.form.BookChange.{BookChange}
 use Rattle.exports_station.specs.declared.form.CallAnswer.{CallAnswer}
 
 -- The bank of every export: kinds 1 to 3, over an engine that carries every generator.
 abbrev pub kinds_asked : Asked
-kinds_asked = asked (three_kinds carries_all carries_all)
+kinds_asked = asked (three_kinds_over carries_all carries_all)
 
 abbrev pub description_of : Code → Description
 description_of c = record { kind = c.kind; degree = c.degree; low = c.low; degree2 = c.degree2; low2 = c.low2; tuple = c.tuple }

@@ -4,7 +4,7 @@
 ghost use Rattle.std.specs.Prelude.{◌≡◌, IfOk};
 ghost use Rattle.code.specs.Model.{asked};
 ghost use Rattle.engine.specs.Meaning.{carries_all};
-ghost use Rattle.runs.specs.Pledge.{three_kinds};
+ghost use Rattle.runs.specs.Pledge.{three_kinds_over};
 ghost use Rattle.console.specs.Transcript.{transcript_of};
 
 use code::bank::Bank;
@@ -32,7 +32,7 @@ fn kinds() -> Kinds {
 
 // What is printed of an input: its transcript at a new station over kinds 1 to 3, with engines that carry every generator.
 fn obeyed(heap: Global, input: &[u8]) -> Result<Vec<u8>, AllocError>
-    ensures { IfOk result (λ v. v.items ≡ transcript_of (asked (three_kinds carries_all carries_all)) input.now) }
+    ensures { IfOk result (λ v. v.items ≡ transcript_of (asked (three_kinds_over carries_all carries_all)) input.now) }
 {
     transcript(heap, kinds(), input)
 }

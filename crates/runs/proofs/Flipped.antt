@@ -9,7 +9,7 @@ use Rattle.poly.specs.Poly.{string}
 use Rattle.words.specs.Digits.{digits}
 use Rattle.words.specs.Flips.{Bytes, flips, Sure}
 use Rattle.words.specs.Words.{Crc}
-use Rattle.code.specs.Model.{Model, Fits, asked, sheet_at, Admits, Keeps, Matches, Word, LawfulMessage}
+use Rattle.code.specs.Model.{Model, Fits, asked, sheet_at, Admits, Keeps, MatchesForCallers, Word, LawfulMessage}
 use Rattle.words.proofs.DigitBytes.{bytes_digits, string-digits}
 use Rattle.words.proofs.Members.{crc_words}
 use Rattle.station.specs.Book.{PlainBook}
@@ -55,7 +55,7 @@ part_lengths i f mask e = (
 )
 
 -- f was sent by a station over the bank a with the book x; no station over b with the book y takes it with sure flips
-module _ (a b : Model) (ka : Keeps a) (kb : Keeps b) (match : Matches a b) (x y : PlainBook) (xa : AllAdmitted a x) (yb : AllAdmitted b y)
+module _ (a b : Model) (ka : Keeps a) (kb : Keeps b) (match : MatchesForCallers a b) (x y : PlainBook) (xa : AllAdmitted a x) (yb : AllAdmitted b y)
     (n : ℕ) (f s : List ℕ) (sent : LawfulFrame a x n f s) (fits : Fits sent.entry.description) (bf : Bytes f) (mask : List ℕ) (bm : Bytes mask) (lm : length mask ≡ length f) where
   never_head : (k : ℕ) (t : List ℕ) → LawfulFrame b y k (altered f mask) t → ¬ Sure 16 3 false (string 8 (take 16 mask))
   never_head k t got sure =

@@ -4,7 +4,7 @@ use Rattle.std.proofs.Common.{◌≡◌, ℕ, ◌+◌, ◌%◌, ◌≤◌, ◌&&
 use Rattle.answer.specs.declared.fault.Layer.TheVariants.{Frame}
 use Rattle.answer.specs.Refusal.{refusal}
 use Rattle.code.specs.declared.description.Description.{Description}
-use Rattle.code.specs.Model.{Model, Fits, asked, Admits, Keeps, Matches, LawfulMessage}
+use Rattle.code.specs.Model.{Model, Fits, asked, Admits, Keeps, MatchesForCallers, LawfulMessage}
 use Rattle.station.specs.Book.{PlainBook, empty_book}
 use Rattle.station.specs.Frame.{entry_at, sealed, taken}
 use Rattle.station.specs.Calls.{book_after}
@@ -83,18 +83,18 @@ seals_again m keeps cs f s bf p room fit =
 -- ---- unaltered frames
 
 -- kinds that match give an admitted description the same sheet, and a lawful message the same check
-pub match_sheets : (a b : Model) → Keeps a → Keeps b → Matches a b → (d : Description) → Fits d → (p q : ℕ) → Admits a d p → Admits b d q
+pub match_sheets : (a b : Model) → Keeps a → Keeps b → MatchesForCallers a b → (d : Description) → Fits d → (p q : ℕ) → Admits a d p → Admits b d q
     → a.sheet d ≡ b.sheet d
 match_sheets a b ka kb match d fd p q pa qb =
     match.sheets d fd (a.sheet d) (b.sheet d) (sheet_answer a ka d p pa) (sheet_answer b kb d q qb)
 
-pub match_checks : (a b : Model) → Keeps a → Keeps b → Matches a b → (d : Description) → Fits d → (p q : ℕ) → Admits a d p → Admits b d q
+pub match_checks : (a b : Model) → Keeps a → Keeps b → MatchesForCallers a b → (d : Description) → Fits d → (p q : ℕ) → Admits a d p → Admits b d q
     → (s : List ℕ) → LawfulMessage (a.sheet d).tuple s → a.check d s ≡ b.check d s
 match_checks a b ka kb match d fd p q pa qb s law =
     match.checks d fd s law.bytes 64 (a.check d s) (b.check d s) (check_answer a ka d p pa s law)
     (check_answer b kb d q qb s (subst (λ x. LawfulMessage x.tuple s) (match_sheets a b ka kb match d fd p q pa qb) law))
 
-pub agrees : (a b : Model) → Keeps a → Keeps b → Matches a b → (x y : PlainBook) → AllAdmitted a x → AllAdmitted b y → (n : ℕ) (f s : List ℕ)
+pub agrees : (a b : Model) → Keeps a → Keeps b → MatchesForCallers a b → (x y : PlainBook) → AllAdmitted a x → AllAdmitted b y → (n : ℕ) (f s : List ℕ)
     → (sent : LawfulFrame a x n f s) → Fits sent.entry.description → Agrees b y n sent.entry.description s (a.check sent.entry.description s)
 agrees a b ka kb match x y xa yb n f s sent fd own h same =
     let d = sent.entry.description in

@@ -2,7 +2,7 @@
 -- Assumes nothing.
 use Rattle.std.specs.Prelude.{◌≡◌, ℕ, Bool, List}
 use Rattle.std.specs.List.{AllByRecursion as All}
-use Rattle.code.specs.Model.{Model, asked, Keeps, Numbered, Matches}
+use Rattle.code.specs.Model.{Model, asked, Keeps, Numbered, MatchesForCallers}
 use Rattle.code.specs.Bank.{joined}
 use Rattle.code.specs.Compared.{CarryTheSame}
 use Rattle.code.specs.CrcModel.{crc_model}
@@ -16,27 +16,27 @@ use Rattle.runs.specs.Ruling.{AnswersByRules, RulesFixAnswers, RunsByRules, Held
 use Rattle.runs.specs.Numbers.{AnswersByNumbers}
 
 -- The bank of kinds 1 to 3: kind 1 over an engine that carries what p says, kind 2 over one that carries what q says.
-abbrev pub three_kinds : (ℕ → ℕ → Bool) → (ℕ → ℕ → Bool) → Model
-three_kinds p q = joined (crc_model p) (joined (parity_model q) weighted_model)
+abbrev pub three_kinds_over : (ℕ → ℕ → Bool) → (ℕ → ℕ → Bool) → Model
+three_kinds_over p q = joined (crc_model p) (joined (parity_model q) weighted_model)
 
 -- For banks of the three kinds no premise is left: they keep the laws, refuse by their own numbers, and match whatever their engines carry ..
-abbrev pub ThreeKindsKeep : Type 0
-ThreeKindsKeep = (p q : ℕ → ℕ → Bool) → Keeps (three_kinds p q)
+abbrev pub ThreeKindsKeepOverTwo : Type 0
+ThreeKindsKeepOverTwo = (p q : ℕ → ℕ → Bool) → Keeps (three_kinds_over p q)
 
 -- .. the numbers
-abbrev pub ThreeKindsNumbered : Type 0
-ThreeKindsNumbered = (p q : ℕ → ℕ → Bool) → Numbered (three_kinds p q)
+abbrev pub ThreeKindsNumberedOverTwo : Type 0
+ThreeKindsNumberedOverTwo = (p q : ℕ → ℕ → Bool) → Numbered (three_kinds_over p q)
 
 -- .. matching
-abbrev pub ThreeKindsMatch : Type 0
-ThreeKindsMatch = (p q r s : ℕ → ℕ → Bool) → Matches (three_kinds p q) (three_kinds r s)
+abbrev pub ThreeKindsMatchOverTwo : Type 0
+ThreeKindsMatchOverTwo = (p q r s : ℕ → ℕ → Bool) → MatchesForCallers (three_kinds_over p q) (three_kinds_over r s)
 
 -- .. and where their engines carry the same generators, stations over them answer alike, call by call.
-abbrev pub ThreeKindsAlike : Type 0
-ThreeKindsAlike =
+abbrev pub ThreeKindsAlikeOverTwo : Type 0
+ThreeKindsAlikeOverTwo =
     (p q r s : ℕ → ℕ → Bool) → CarryTheSame p r → CarryTheSame q s → (cs : List Call) → All Typed cs
-    → (answers_from (asked (three_kinds p q)) empty_book cs ≡ answers_from (asked (three_kinds r s)) empty_book cs)
-    × (book_after (asked (three_kinds p q)) cs ≡ book_after (asked (three_kinds r s)) cs)
+    → (answers_from (asked (three_kinds_over p q)) empty_book cs ≡ answers_from (asked (three_kinds_over r s)) empty_book cs)
+    × (book_after (asked (three_kinds_over p q)) cs ≡ book_after (asked (three_kinds_over r s)) cs)
 
 -- What stations promise, over every list of calls and every bank that keeps the two laws; of two stations, over banks that match.
 pub record StationsPromise : Type 0 where
@@ -66,7 +66,7 @@ pub record StationsPromise : Type 0 where
   -- a refusal has one of its call's own numbers
   pub numbers : AnswersByNumbers
   -- for the three kinds: the laws, the numbers and matching over any engines, the same answers over engines that carry the same generators
-  pub kinds_keep : ThreeKindsKeep
-  pub kinds_numbered : ThreeKindsNumbered
-  pub kinds_match : ThreeKindsMatch
-  pub kinds_alike : ThreeKindsAlike
+  pub kinds_keep : ThreeKindsKeepOverTwo
+  pub kinds_numbered : ThreeKindsNumberedOverTwo
+  pub kinds_match : ThreeKindsMatchOverTwo
+  pub kinds_alike : ThreeKindsAlikeOverTwo

@@ -8,7 +8,7 @@ use Rattle.poly.specs.Poly.{string}
 use Rattle.words.specs.Flips.{Bytes, Sure}
 use Rattle.code.specs.declared.description.Description.{Description}
 use Rattle.code.specs.declared.description.Sheet.{Sheet}
-use Rattle.code.specs.Model.{Model, Asked, asked, sheet_at, Keeps, Matches, MeansTheSame, LawfulMessage}
+use Rattle.code.specs.Model.{Model, Asked, asked, sheet_at, Keeps, MatchesForCallers, MeansTheSameForCallers, LawfulMessage}
 use Rattle.station.specs.declared.entry.Entry.{Entry}
 use Rattle.station.specs.Layout.{layout}
 use Rattle.station.specs.Book.{PlainBook, held}
@@ -49,7 +49,7 @@ pub record Sent (a : Model) (n : ℕ) (s f : List ℕ) (e : Entry) : Type 0 wher
 -- Sure flips are refused at every station with a matching bank, whatever either book holds.
 abbrev pub RefusesSureFlips : Type 0
 RefusesSureFlips =
-    (a b : Model) → Keeps a → Keeps b → Matches a b → (n : ℕ) (s f : List ℕ) (e : Entry) → Sent a n s f e
+    (a b : Model) → Keeps a → Keeps b → MatchesForCallers a b → (n : ℕ) (s f : List ℕ) (e : Entry) → Sent a n s f e
     → (mask : List ℕ) → Bytes mask → length mask ≡ length f → SureFlips (sheet_at a e.description e.reach) mask
     → (ds : List Call) → is_ok (taken (asked b) (book_after (asked b) ds) (altered f mask)) ≡ false
 
@@ -87,7 +87,7 @@ pub record Fate (b : PlainBook) (n : ℕ) (d : Description) (w : ℕ) (s : List 
 -- An unaltered frame has that fate at every station with a matching bank, whatever either book holds.
 abbrev pub HandsOverUnaltered : Type 0
 HandsOverUnaltered =
-    (a b : Model) → Keeps a → Keeps b → Matches a b → (n : ℕ) (s f : List ℕ) (e : Entry) → Sent a n s f e
+    (a b : Model) → Keeps a → Keeps b → MatchesForCallers a b → (n : ℕ) (s f : List ℕ) (e : Entry) → Sent a n s f e
     → (ds : List Call) → Fate (book_after (asked b) ds) n e.description (length (drop layout.size f)) s (taken (asked b) (book_after (asked b) ds) f)
 
 -- What the book b makes of g, a frame f with the message s and the description d whose word was altered: where it refuses f, it refuses g with the same
@@ -101,7 +101,7 @@ pub record WordRefused (m : Model) (b : PlainBook) (d : Description) (s f g : Li
 -- Sure flips in the word alone, exactly: at every station with a matching bank, whatever either book holds.
 abbrev pub RefusesSureWords : Type 0
 RefusesSureWords =
-    (a b : Model) → Keeps a → Keeps b → Matches a b → (n : ℕ) (s f : List ℕ) (e : Entry) → Sent a n s f e
+    (a b : Model) → Keeps a → Keeps b → MatchesForCallers a b → (n : ℕ) (s f : List ℕ) (e : Entry) → Sent a n s f e
     → (mask : List ℕ) → Bytes mask → length mask ≡ length f → string 8 (take layout.size mask) ≡ 0
     → SureFlips (sheet_at a e.description e.reach) mask
     → (ds : List Call) → WordRefused b (book_after (asked b) ds) e.description s f (altered f mask)
@@ -109,7 +109,7 @@ RefusesSureWords =
 -- Banks that mean the same make stations that answer alike, call by call.
 abbrev pub AnswersAlike : Type 0
 AnswersAlike =
-    (a b : Model) → MeansTheSame a b → (cs : List Call) → All Typed cs
+    (a b : Model) → MeansTheSameForCallers a b → (cs : List Call) → All Typed cs
     → (answers_from (asked a) empty_book cs ≡ answers_from (asked b) empty_book cs) × (book_after (asked a) cs ≡ book_after (asked b) cs)
 
 -- Sealing a taken frame's message under its number gives the frame back.
