@@ -2,7 +2,7 @@
 -- caller can pass.
 -- Assumes nothing.
 use Rattle.std.specs.Prelude.{◌≡◌, ℕ, ◌+◌, ◌%◌, ◌^◌, ◌<◌, ◌≤◌, Bool, ◌&&◌, List, [], ◌∷◌, ◌++◌, length, drop, Ok, Err, Result, ◌==◌, nat_le, nat_lt}
-use Rattle.std.specs.List.{AllByRecursion as All}
+use Rattle.std.specs.List.{AllByRecursion}
 use Rattle.answer.specs.declared.fault.Layer.TheVariants.{Kind, Frame}
 use Rattle.answer.specs.Refusal.{Refusal, refusal}
 use Rattle.answer.specs.Rules.{Rule, rule, by_rules}
@@ -109,8 +109,8 @@ Between least most r = (least ≤ r.otherwise.number) × (r.otherwise.number ≤
 
 -- A kind refuses by its own numbers alone: a description by 12 to 15, a reach by 16 or 17. (11, 31 and 33 are those of `asked`.)
 pub record Numbered (m : Model) : Type 0 where
-  pub fits : (d : Description) → All (Between 12 15) (m.fits d)
-  pub reaches : (d : Description) (reach : ℕ) → All (Between 16 17) (m.reaches d reach)
+  pub fits : (d : Description) → AllByRecursion (Between 12 15) (m.fits d)
+  pub reaches : (d : Description) (reach : ℕ) → AllByRecursion (Between 16 17) (m.reaches d reach)
 
 -- ---- kinds compared by their answers
 
