@@ -10,3 +10,4 @@ pub mod FieldRules
 pub mod WeightedFit
 pub mod WeightedKeeps
 pub mod Output
+pub mod Numbers

@@ -11,4 +11,4 @@ pub mod Answered
 pub mod Samples
 pub mod Output
 pub mod Joined
-pub mod Numbers
+pub mod Numbered

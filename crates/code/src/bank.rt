@@ -2,7 +2,6 @@
 ghost use Rattle.std.specs.Prelude.{◌≡◌};
 ghost use Rattle.code.specs.Bank.{joined};
 ghost use Rattle.code.specs.Joined.{joined_keeps};
-ghost use Rattle.code.specs.Numbers.{joined_numbered};
 
 use crate::description::{Description, Sheet};
 use crate::kind::Kind;
@@ -37,8 +36,6 @@ impl<L: Kind, R: Kind> Kind for Bank<L, R> {
     ghost model = { λ b. joined (L.Kind.model b.left) (R.Kind.model b.right) };
 
     ghost keeps = { λ k. joined_keeps (L.Kind.keeps k.left) (R.Kind.keeps k.right) };
-
-    ghost numbered = { λ k. joined_numbered (L.Kind.numbered k.left) (R.Kind.numbered k.right) };
 
     fn serves(&self, kind: u8) -> bool {
         self.left.serves(kind) || self.right.serves(kind)

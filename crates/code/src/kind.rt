@@ -1,7 +1,7 @@
 // What every kind of code does. Its meaning is a model; asking alters none of it.
 ghost use Rattle.std.specs.Prelude.{◌≡◌, ℕ, length};
 ghost use Rattle.answer.specs.Refusal.{read};
-ghost use Rattle.code.specs.Model.{Model, Keeps, Numbered, asked, length_of, written};
+ghost use Rattle.code.specs.Model.{Model, Keeps, asked, length_of, written};
 
 use crate::description::{Description, Sheet};
 use answer::fault::Fault;
@@ -31,7 +31,4 @@ pub trait Kind {
 
     // the two laws
     ghost keeps: { (k : Self) → Keeps (model k) };
-
-    // refusals by the numbers of a kind alone
-    ghost numbered: { (k : Self) → Numbered (model k) };
 }

@@ -10,4 +10,5 @@ pub mod description;
 pub mod fields;
 pub mod for_callers;
 pub mod kind;
+pub mod numbering;
 pub mod relations;

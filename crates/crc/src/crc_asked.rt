@@ -5,7 +5,6 @@ ghost use Rattle.code.specs.Model.{asked, length_of, written};
 ghost use Rattle.crc.specs.Admitted.{admitted};
 ghost use Rattle.code.specs.CrcModel.{crc_model};
 ghost use Rattle.code.proofs.CrcLaws.{crc-keeps};
-ghost use Rattle.code.specs.Numbers.{crc_numbered};
 
 use crate::admitted_crc::AdmittedCrc;
 use crate::crc_kind::{Crc, check_bytes, crc_reaches, even_terms};
@@ -85,8 +84,6 @@ impl<E: Engine> Kind for Crc<E> {
     ghost model = { λ k. crc_model (E.Engine.carries_of k.engine) };
 
     ghost keeps = { λ k. crc-keeps (E.Engine.carries_of k.engine) };
-
-    ghost numbered = { λ k. crc_numbered (E.Engine.carries_of k.engine) };
 
     fn serves(&self, kind: u8) -> bool {
         kind == 1

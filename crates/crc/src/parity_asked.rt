@@ -4,7 +4,6 @@ ghost use Rattle.answer.specs.Refusal.{read};
 ghost use Rattle.code.specs.Model.{asked, length_of, written};
 ghost use Rattle.code.specs.ParityModel.{parity_model};
 ghost use Rattle.code.proofs.ParityLaws.{parity_keeps};
-ghost use Rattle.code.specs.Numbers.{parity_numbered};
 
 use crate::crc_kind::{check_bytes, crc_reaches};
 use crate::parity_kind::{CrcParity, with_parity};
@@ -56,8 +55,6 @@ impl<E: Engine> Kind for CrcParity<E> {
     ghost model = { λ k. parity_model (E.Engine.carries_of k.engine) };
 
     ghost keeps = { λ k. parity_keeps (E.Engine.carries_of k.engine) };
-
-    ghost numbered = { λ k. parity_numbered (E.Engine.carries_of k.engine) };
 
     fn serves(&self, kind: u8) -> bool {
         kind == 2

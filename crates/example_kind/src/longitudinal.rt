@@ -66,8 +66,6 @@ impl Kind for Longitudinal {
 
     ghost keeps = { λ k. Laws.keeps };
 
-    ghost numbered = { λ k. Laws.numbered };
-
     fn serves(&self, kind: u8) -> bool {
         kind == 200
     }

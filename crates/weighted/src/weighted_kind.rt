@@ -10,7 +10,6 @@ ghost use Rattle.code.specs.Fields.{proper_low};
 ghost use Rattle.code.specs.Model.{described_rules};
 ghost use Rattle.code.specs.WeightedModel.{first_sum, second_sum, weighted_sizes, weighted_reaches, weighted_model};
 ghost use Rattle.code.proofs.WeightedKeeps.{weighted-keeps};
-ghost use Rattle.code.specs.Numbers.{weighted_numbered};
 
 use crate::tuple_sums::add_up;
 use answer::fault::Fault;
@@ -119,8 +118,6 @@ impl Kind for WeightedSum {
     ghost model = { λ _. weighted_model };
 
     ghost keeps = { λ k. weighted-keeps };
-
-    ghost numbered = { λ k. weighted_numbered };
 
     fn serves(&self, kind: u8) -> bool {
         kind == 3
