@@ -55,7 +55,6 @@ lawful_sealed m keeps b ad n f s room l fit =
     ∙ keeps_on (leb (length s + sh.check) e.reach) (refusal 32 Frame 12) _ (le-leb (length s + sh.check) e.reach (omega (arith, l.within)))
     ∙ keeps_on (leb (16 + (length s + sh.check)) room) (refusal 33 Frame room) _ (le-leb (16 + (length s + sh.check)) room (omega arith))
     ∙ then_is ((asked m).check d s 64) c _ (check_answer m keeps d e.reach a s l.lawful)
-    ∙ keeps_on (eqb (length c) sh.check) (refusal 33 Frame room) _ (eq-eqb (length c) sh.check long)
     ∙ ap Ok (sym l.is_frame)
 
 pub seals_the_lawful : SealsTheLawful
