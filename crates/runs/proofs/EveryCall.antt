@@ -9,14 +9,14 @@ use Rattle.answer.specs.Rules.{then, need}
 use Rattle.answer.proofs.Ruled.{then_rules}
 use Rattle.words.specs.Flips.{Bytes}
 use Rattle.code.specs.declared.description.Description.{Description}
-use Rattle.code.specs.Model.{Model, asked, described_rules, Admits, Keeps, LawfulMessage}
+use Rattle.code.specs.Model.{Model, asked, described_rules, Admits, Keeps}
 use Rattle.station.specs.declared.entry.Entry.{Entry}
 use Rattle.station.specs.Book.{PlainBook, empty_book, held}
 use Rattle.station.specs.Frame.{frame, sealed, taken}
 use Rattle.station.specs.Calls as calls
 use Rattle.station.specs.Calls.{Change, enter, narrow, retire, Call, change, ask, entering, narrowing, retiring, changing, trying, answer, step, book_after, answers_from, Typed}
 use Rattle.runs.specs.Ruling.{Demand, demand, exactly, FirstBroken, GoesBy, works, refuses, of_tests, IsHeld, OfEntry, sheet_of, Done, enter_rules, narrow_rules, retire_rules, change_rules, seal_rules, Written, take_rules, Handed, trial_rules, ByItsRules, AnswersByRules, AllByRules, RunsByRules, Unrefused, HeldUnrefused}
-use Rattle.runs.proofs.Inverts.{then_is, keeps_on, both_true, both_are, rules_pass}
+use Rattle.runs.proofs.Inverts.{then_is, both_true, both_are, rules_pass}
 use Rattle.runs.proofs.Admitted.{Admitted, AllAdmitted, all_held, admitted_fit, step-admitted, book_admitted}
 use Rattle.runs.proofs.Hands.{sheet_answer, check_answers}
 use Rattle.runs.proofs.Ruled.{by_need, by_asked, by_held, of_held, first_test, under, taken_by_rules}
