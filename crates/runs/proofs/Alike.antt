@@ -10,7 +10,7 @@ use Rattle.words.specs.Flips.{Bytes}
 use Rattle.code.specs.Model.{Fits, Asked, length_of, written}
 use Rattle.station.specs.declared.entry.Entry.{Entry}
 use Rattle.station.specs.Book.{PlainBook}
-use Rattle.station.specs.Frame.{coded, ccitt, pair_at, entry_at, differ, alike, sealed, sealed_by, opened, taken}
+use Rattle.station.specs.Frame.{coded, ccitt, pair_at, entry_at, differ, alike, sealed, opened, taken}
 use Rattle.station.specs.Calls as calls
 use Rattle.station.specs.Calls.{Change, enter, narrow, retire, Ask, Call, change, ask, Answer, wrote, handed, tried, done, changing, trying, asking, answer, changed, step, run, answers_from, Typed, TypedChange, TypedAsk}
 use Rattle.station.proofs.Chains.{then-alike}
@@ -28,14 +28,6 @@ module _ (a b : Asked)
     (sheets : (d : Description) → Fits d → a.sheet d ≡ b.sheet d)
     (checks : (d : Description) (s : List ℕ) → Fits d → Bytes s → a.check d s 64 ≡ b.check d s 64) where
   -- ---- by an entry that fits
-
-  sealed_by_lem : (e : Entry) → Fits e.description → (n : ℕ) (s : List ℕ) (room : ℕ) → Bytes s → sealed_by a e n s room ≡ sealed_by b e n s room
-  sealed_by_lem e f n s room bs =
-      then_both (sheets e.description f) _ _ (λ sh.
-      then-alike (need (ltb 0 (length s) && eqb (length s % sh.tuple) 0) (refusal 31 Frame (length s))) _ _ (λ _ _.
-      then-alike (need (leb (length s + sh.check) e.reach) (refusal 32 Frame 12)) _ _ (λ _ _.
-      then-alike (need (leb (16 + (length s + sh.check)) room) (refusal 33 Frame room)) _ _ (λ _ _.
-      then_both (checks e.description s f bs) _ _ (λ c. refl)))))
 
   opened_by : (e : Entry) → Fits e.description → (ten w : List ℕ) → Bytes w → opened a e ten w ≡ opened b e ten w
   opened_by e f ten w bw =
@@ -59,7 +51,13 @@ module _ (a b : Asked)
     changing-alike (retire n) t = refl
 
     sealed-alike : (n : ℕ) (s : List ℕ) (room : ℕ) → Bytes s → sealed a p n s room ≡ sealed b p n s room
-    sealed-alike n s room bs = then-alike (entry_at p n) _ _ (λ e h. sealed_by_lem e (fits n e h) n s room bs)
+    sealed-alike n s room bs =
+        then-alike (entry_at p n) _ _ (λ e h.
+        then_both (sheets e.description (fits n e h)) _ _ (λ sh.
+        then-alike (need (ltb 0 (length s) && eqb (length s % sh.tuple) 0) (refusal 31 Frame (length s))) _ _ (λ _ _.
+        then-alike (need (leb (length s + sh.check) e.reach) (refusal 32 Frame 12)) _ _ (λ _ _.
+        then-alike (need (leb (16 + (length s + sh.check)) room) (refusal 33 Frame room)) _ _ (λ _ _.
+        then_both (checks e.description s (fits n e h) bs) _ _ (λ c. refl))))))
 
     taken-alike : (f : List ℕ) → Bytes f → taken a p f ≡ taken b p f
     taken-alike f bf =

@@ -9,14 +9,14 @@ use Rattle.answer.specs.Rules.{then, need}
 use Rattle.answer.proofs.Ruled.{then_rules}
 use Rattle.words.specs.Flips.{Bytes}
 use Rattle.code.specs.declared.description.Description.{Description}
-use Rattle.code.specs.Model.{Model, asked, described_rules, Admits, Keeps, LawfulMessage}
+use Rattle.code.specs.Model.{Model, asked, described_rules, Admits, Keeps}
 use Rattle.station.specs.declared.entry.Entry.{Entry}
 use Rattle.station.specs.Book.{PlainBook, empty_book, held}
 use Rattle.station.specs.Frame.{frame, sealed, taken}
 use Rattle.station.specs.Calls as calls
 use Rattle.station.specs.Calls.{Change, enter, narrow, retire, Call, change, ask, entering, narrowing, retiring, changing, trying, answer, step, book_after, answers_from, Typed}
 use Rattle.runs.specs.Ruling.{Demand, demand, exactly, FirstBroken, GoesBy, works, refuses, of_tests, IsHeld, OfEntry, sheet_of, Done, enter_rules, narrow_rules, retire_rules, change_rules, seal_rules, Written, take_rules, Handed, trial_rules, ByItsRules, AnswersByRules, AllByRules, RunsByRules, Unrefused, HeldUnrefused}
-use Rattle.runs.proofs.Inverts.{then_is, keeps_on, both_true, both_are, rules_pass}
+use Rattle.runs.proofs.Inverts.{then_is, both_true, both_are, rules_pass}
 use Rattle.runs.proofs.Admitted.{Admitted, AllAdmitted, all_held, admitted_fit, step-admitted, book_admitted}
 use Rattle.runs.proofs.Hands.{sheet_answer, check_answers}
 use Rattle.runs.proofs.Ruled.{by_need, by_asked, by_held, of_held, first_test, under, taken_by_rules}
@@ -96,8 +96,8 @@ module _ (m : Model) (keeps : Keeps m) (b : PlainBook) (ad : AllAdmitted m b) wh
   changes (narrow n r) = narrows n r
   changes (retire n) = retires n
 
-  seals : (n : ℕ) (s : List ℕ) (room : ℕ) → Bytes s → GoesBy (seal_rules m b n s room) (Written m b n s) (sealed (asked m) b n s room)
-  seals n s room bs = by_held P _ b n _ (λ e h.
+  seals : (n : ℕ) (s : List ℕ) (room : ℕ) → GoesBy (seal_rules m b n s room) (Written m b n s) (sealed (asked m) b n s room)
+  seals n s room = by_held P _ b n _ (λ e h.
       let d = e.description in
       let sh = m.sheet d in
       let a = all_held (Admitted m) b n e ad h in
@@ -121,11 +121,7 @@ module _ (m : Model) (keeps : Keeps m) (b : PlainBook) (ad : AllAdmitted m b) wh
       (λ _.
       let c = m.check d s in
       let most : length s ≤ 4096 = omega (arith, k32 e h, law.most) in
-      let lawful : LawfulMessage sh.tuple s = record { some = (k31 e h).0; tuples = (k31 e h).1; most = most; bytes = bs } in
-      let long : length c ≡ sh.check = (keeps.long d e.reach a s lawful).0 in
-      subst (GoesBy [] P) (sym (
-      then_is ((asked m).check d s 64) c _ (check_answers m keeps d e.reach a s (k31 e h).0 (k31 e h).1 most)
-      ∙ keeps_on (eqb (length c) sh.check) (refusal 33 Frame room) _ (eq-eqb (length c) sh.check long)))
+      subst (GoesBy [] P) (sym (then_is ((asked m).check d s 64) c _ (check_answers m keeps d e.reach a s (k31 e h).0 (k31 e h).1 most)))
       (works tt (of_held b n (λ x. frame n d s c ≡ frame n x.description s (m.check x.description s)) e h refl)))))))
     where
       P : List ℕ → Type 0
@@ -151,7 +147,7 @@ module _ (m : Model) (keeps : Keeps m) (b : PlainBook) (ad : AllAdmitted m b) wh
 
   pub by_its_rules : (c : Call) → Typed c → ByItsRules m b c (answer (asked m) b c)
   by_its_rules (change c) t = (changing (asked m) b c, refl, changes c)
-  by_its_rules (ask (calls.seal n s out)) t = (sealed (asked m) b n s (length out), refl, seals n s (length out) t.1)
+  by_its_rules (ask (calls.seal n s out)) t = (sealed (asked m) b n s (length out), refl, seals n s (length out))
   by_its_rules (ask (calls.take f)) t = (taken (asked m) b f, refl, taken_by_rules m keeps b ad f t)
   by_its_rules (ask (calls.trial f at byte)) t = (trying (asked m) b f at byte, refl, tries f at byte t.0 t.1)
 

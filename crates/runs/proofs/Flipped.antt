@@ -15,7 +15,8 @@ use Rattle.words.proofs.Members.{crc_words}
 use Rattle.station.specs.Book.{PlainBook}
 use Rattle.station.specs.Frame.{ccitt, head, pair_at, taken}
 use Rattle.station.specs.Calls.{book_after}
-use Rattle.runs.specs.Promises.{altered, SureFlips, in_head, in_word, LawfulFrame, RefusesSureFlips, RefusesSureHeads}
+use Rattle.runs.specs.Promises.{altered, SureFlips, in_head, in_word, LawfulFrame, RefusesSureFlips, RefusesSureFlipsForCallers, RefusesSureHeads}
+use Rattle.code.proofs.CallersCompared.{matches_for_callers}
 use Rattle.runs.proofs.Inverts.{some_is, keeps_on, broken}
 use Rattle.runs.proofs.Admitted.{Admitted, AllAdmitted, Fitting, all_held, book_admitted, book_fits, held_number}
 use Rattle.runs.proofs.Opens.{gets, gets_drop, bytes_at, two_of, bytes_take, bytes_drop, taken_ok, taken_lawful, sealed_ok, sealed_lawful}
@@ -111,8 +112,8 @@ refuted : (x : Result (List ℕ) Refusal) → ((t : List ℕ) → x ≡ Ok t →
 refuted (Ok t) no-t = absurd (no-t t refl)
 refuted (Err z) no-t = refl
 
-pub refuses_sure_flips : RefusesSureFlips
-refuses_sure_flips a b ka kb match n s f e sent mask bm lm sure ds =
+pub refuses_sure_flips_for_callers : RefusesSureFlipsForCallers
+refuses_sure_flips_for_callers a b ka kb match n s f e sent mask bm lm sure ds =
     let x = book_after (asked a) sent.calls in
     let y = book_after (asked b) ds in
     let xa = book_admitted a sent.calls in
@@ -125,6 +126,9 @@ refuses_sure_flips a b ka kb match n s f e sent mask bm lm sure ds =
     refuted (taken (asked b) y g) (λ t q.
     never a b ka kb match x y xa yb n f s l (all_held Fitting x n l.entry fits l.is_held).1 bf mask bm lm (get_or g 1 0) t (taken_lawful b y g t (bytes_altered f mask bf bm) (taken_ok b y g t q))
     (subst (λ z. SureFlips (sheet_at a z.description z.reach) mask) own sure))
+
+pub refuses_sure_flips : RefusesSureFlips
+refuses_sure_flips a b ka kb match = refuses_sure_flips_for_callers a b ka kb (matches_for_callers match)
 
 -- ---- the head by itself
 

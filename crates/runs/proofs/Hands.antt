@@ -1,8 +1,9 @@
 -- What take makes of a frame that is head, message and check.
 -- Assumes nothing.
-use Rattle.std.proofs.Common.{◌≡◌, ℕ, ◌+◌, ◌-◌, ◌*◌, ◌/◌, ◌%◌, ◌≤◌, true, ◌&&◌, eqb, ltb, leb, List, [], ◌∷◌, ◌++◌, length, take, drop, Some, None, Ok, Err, Option, Result, sym, refl, ap, ◌∙◌, ap₂, arith, length-append, take_at, drop_at, lt-ltb, eq-eqb, le-leb, leb-true}
+use Rattle.std.proofs.Common.{◌≡◌, ℕ, zero, suc, ◌+◌, ◌-◌, ◌*◌, ◌/◌, ◌%◌, ◌≤◌, true, ◌&&◌, eqb, ltb, leb, List, [], ◌∷◌, ◌++◌, length, take, drop, Some, None, Ok, Err, Option, Result, sym, refl, ap, ◌∙◌, ap₂, le_of_suc-le-suc, not-suc-le-zero, arith, length-append, take_at, drop_at, lt-ltb, eq-eqb, ne_eqb, le-leb, leb-true}
 use native.Mathlib.Nat.{add-mod, zero-mod}
 use borrow.Author.Tests.{lt-leb}
+use Rattle.std.specs.Option.{option_map}
 use Rattle.answer.specs.declared.fault.Layer.TheVariants.{Frame}
 use Rattle.answer.specs.Refusal.{Refusal, refusal}
 use Rattle.answer.specs.Rules.{rule, then, need}
@@ -11,7 +12,7 @@ use Rattle.code.specs.Model.{Model, Asked, asked, described_rules, whole, Admits
 use Rattle.station.specs.declared.entry.Entry.{Entry}
 use Rattle.station.specs.Book.{PlainBook, held}
 use Rattle.station.specs.Frame.{coded, ccitt, front, frame, entry_at, differ, alike, opened, taken}
-use Rattle.runs.specs.Promises.{Fate}
+use Rattle.runs.specs.Promises.{FirstDiffer, Fate}
 use Rattle.runs.proofs.Inverts.{ok_is, then_ok, then_is, need_ok, keeps_on, broken, alike_ok, alike_same, alike-apart, both_are, entry_ok, entry_is, entry-none, differ_same, differ-none, differ_some, differ_first, rules_pass, kept_join}
 use Rattle.runs.proofs.Heads.{coded_one}
 use Rattle.runs.proofs.Admitted.{Admitted, AllAdmitted, all_held, admitted_fit}
@@ -153,6 +154,22 @@ fated m keeps b admitted n d s c some agree = headed (asked m) b n d s c some �
 
 -- ---- in words
 
+heads : (x y : ℕ) (xs ys : List ℕ) → x ∷ xs ≡ y ∷ ys → (x ≡ y) × (xs ≡ ys)
+heads x y xs ys e = (cc, cc)
+
+pub differ_at : (xs ys : List ℕ) (i : ℕ) → FirstDiffer xs ys i → differ xs ys ≡ Some i
+differ_at [] ys i k = absurd (not-suc-le-zero k.inside.0)
+differ_at (x ∷ xs) [] i k = absurd (not-suc-le-zero k.inside.1)
+differ_at (x ∷ xs) (y ∷ ys) zero k = let f = ne_eqb x y k.here in rw f refl
+differ_at (x ∷ xs) (y ∷ ys) (suc i) k =
+    let h = heads x y (take i xs) (take i ys) k.before in
+    let t = eq-eqb x y h.0 in
+    rw t (ap (option_map suc) (differ_at xs ys i (record {
+      before = h.1;
+      inside = (le_of_suc-le-suc k.inside.0, le_of_suc-le-suc k.inside.1);
+      here = k.here;
+    })))
+
 pub fate_stands : (b : PlainBook) (n : ℕ) (d : Description) (w : ℕ) (s : List ℕ) → Fate b n d w s (fate b n d w s)
 fate_stands b n d w s = record {
   exactly = λ t. (
@@ -178,7 +195,11 @@ fate_stands b n d w s = record {
         ∙ ap Ok (sym p.1)),
   );
   unheld = λ p. ap (λ x. then x rest) (entry-none b n p);
-  unlike = λ own h ne.
+  unlike = λ own i h k.
+      then_is (entry_at b n) own _ (entry_is b n own h)
+      ∙ ap (λ o. then (alike 45 2 o) (λ _. then (need (leb w own.reach) (refusal 32 Frame 12)) (λ _. Ok s)))
+      (differ_at (coded d) (coded own.description) i k);
+  apart = λ own h ne.
       let k = differ_some (coded d) (coded own.description) (λ q. ne (sym (coded_one d own.description q))) in (
         k.0,
         differ_first (coded d) (coded own.description) refl k.0 k.1,

@@ -150,7 +150,7 @@ module _ (m : Model) (keeps : Keeps m) (numbered : Numbered m) (b : PlainBook) (
       let most : length s ≤ 4096 = omega (arith, (keeps.lawful d e.reach a).most) in
       by_ok ns ((asked m).check d s 64) (m.check d s) _
       (check_answers m keeps d e.reach a s (ltb-true 0 (length s) k.0) (eqb-true (length s % sh.tuple) 0 k.1) most)
-      (by_need ns (eqb (length (m.check d s)) sh.check) (refusal 33 Frame room) _ refl (λ _. refl)))))))
+      refl)))))
     where
       ns : List ℕ
       ns = 23 ∷ 31 ∷ 32 ∷ 33 ∷ []

@@ -171,7 +171,6 @@ sealed_ok m b n s room f p =
     let k33 = need_ok (leb (16 + (length s + sh.check)) room) _ _ f k32.1 in
     let q = then_ok ((asked m).check d s 64) _ f k33.1 in
     let c = q.0 in
-    let k64 = need_ok (eqb (length c) sh.check) _ _ f q.2 in
     let g = check_ok m d s 64 c q.1 in
     record {
       entry = e;
@@ -179,7 +178,7 @@ sealed_ok m b n s room f p =
       within = subst (λ x. length s + x.check ≤ e.reach) is-sheet (leb-true _ _ k32.0);
       fits = subst (λ x. 16 + (length s + x.check) ≤ room) is-sheet (leb-true _ _ k33.0);
       checked = subst (λ x. Checked m d s x 64) g.is_check g;
-      is_frame = sym (ok_is _ _ k64.1) ∙ ap (frame n d s) g.is_check;
+      is_frame = sym (ok_is _ _ q.2) ∙ ap (frame n d s) g.is_check;
     }
 
 pub sealed_lawful : (m : Model) (b : PlainBook) (n : ℕ) (s : List ℕ) (room : ℕ) (f : List ℕ) → Keeps m → AllAdmitted m b → Bytes s

@@ -1,14 +1,17 @@
 -- The promises on frames that nothing altered, and on banks that mean the same.
 -- Assumes nothing.
-use Rattle.std.proofs.Common.{◌≡◌, ℕ, ◌+◌, ◌%◌, ◌≤◌, ◌&&◌, eqb, ltb, leb, List, length, get_or, drop, Ok, sym, refl, ap, ◌∙◌, subst, arith, length-append, lt-ltb, eq-eqb, le-leb}
+use Rattle.std.proofs.Common.{◌≡◌, ℕ, ◌+◌, ◌%◌, ◌≤◌, Bool, ◌&&◌, eqb, ltb, leb, List, length, get_or, drop, Ok, Result, sym, refl, ap, ◌∙◌, subst, arith, length-append, lt-ltb, eq-eqb, le-leb}
+use mathlib.Core.Path.{fun_ext}
 use Rattle.answer.specs.declared.fault.Layer.TheVariants.{Frame}
-use Rattle.answer.specs.Refusal.{refusal}
+use Rattle.answer.specs.Refusal.{Refusal, refusal}
 use Rattle.code.specs.declared.description.Description.{Description}
-use Rattle.code.specs.Model.{Model, Fits, asked, Admits, Keeps, MatchesForCallers, LawfulMessage}
+use Rattle.code.specs.declared.description.Sheet.{Sheet}
+use Rattle.code.specs.Model.{Model, Asked, Fits, asked, Admits, Keeps, MatchesForCallers, MeansTheSame, LawfulMessage}
+use Rattle.code.proofs.CallersCompared.{matches_for_callers}
 use Rattle.station.specs.Book.{PlainBook, empty_book}
 use Rattle.station.specs.Frame.{entry_at, sealed, taken}
-use Rattle.station.specs.Calls.{book_after}
-use Rattle.runs.specs.Promises.{LawfulFrame, Fate, HandsOverUnaltered, AnswersAlike, SealsAgain, TakesTheLawful, SealsTheLawful}
+use Rattle.station.specs.Calls.{answers_from, book_after}
+use Rattle.runs.specs.Promises.{LawfulFrame, Fate, HandsOverUnaltered, HandsOverUnalteredForCallers, AnswersAlike, AnswersAlikeForCallers, SealsAgain, TakesTheLawful, SealsTheLawful}
 use Rattle.runs.proofs.Inverts.{some_is, then_is, keeps_on, both_are, entry_is}
 use Rattle.runs.proofs.Admitted.{Admitted, AllAdmitted, Fitting, all_held, book_admitted, book_fits}
 use Rattle.runs.proofs.Opens.{taken_ok, taken_lawful, sealed_ok, sealed_lawful}
@@ -55,7 +58,6 @@ lawful_sealed m keeps b ad n f s room l fit =
     ∙ keeps_on (leb (length s + sh.check) e.reach) (refusal 32 Frame 12) _ (le-leb (length s + sh.check) e.reach (omega (arith, l.within)))
     ∙ keeps_on (leb (16 + (length s + sh.check)) room) (refusal 33 Frame room) _ (le-leb (16 + (length s + sh.check)) room (omega arith))
     ∙ then_is ((asked m).check d s 64) c _ (check_answer m keeps d e.reach a s l.lawful)
-    ∙ keeps_on (eqb (length c) sh.check) (refusal 33 Frame room) _ (eq-eqb (length c) sh.check long)
     ∙ ap Ok (sym l.is_frame)
 
 pub seals_the_lawful : SealsTheLawful
@@ -106,8 +108,8 @@ agrees a b ka kb match x y xa yb n f s sent fd own h same =
       subst (λ z. LawfulMessage z.tuple s) (match_sheets a b ka kb match d fd p q pa qb ∙ ap b.sheet (sym same)) sent.lawful,
     )
 
-pub hands_over_unaltered : HandsOverUnaltered
-hands_over_unaltered a b ka kb match n s f e sent ds =
+pub hands_over_unaltered_for_callers : HandsOverUnalteredForCallers
+hands_over_unaltered_for_callers a b ka kb match n s f e sent ds =
     let x = book_after (asked a) sent.calls in
     let y = book_after (asked b) ds in
     let xa = book_admitted a sent.calls in
@@ -125,8 +127,32 @@ hands_over_unaltered a b ka kb match n s f e sent ds =
     (subst (λ w. Fate y n d w s (taken (asked b) y f)) size
     (subst (Fate y n d (length s + length c) s) is-fate (fate_stands y n d (length s + length c) s)))
 
+pub hands_over_unaltered : HandsOverUnaltered
+hands_over_unaltered a b ka kb match = hands_over_unaltered_for_callers a b ka kb (matches_for_callers match)
+
 -- ---- banks that mean the same
 
+make_asked : (ℕ → Bool) → (Description → ℕ → Result (Unit {0}) Refusal) → (Description → Result Sheet Refusal)
+    → (Description → List ℕ → ℕ → Result (List ℕ) Refusal) → Asked
+make_asked e f g h = record { serves = e; admission = f; sheet = g; check = h }
+
+pub same_asked : (a b : Model) → MeansTheSame a b → asked a ≡ asked b
+unfolding make_asked
+same_asked a b s =
+    let p = fun_ext s.serve in
+    let q = fun_ext (λ d. fun_ext (s.admissions d)) in
+    let r = fun_ext s.sheets in
+    let t = fun_ext (λ d. fun_ext (λ m. fun_ext (s.checks d m))) in
+    let u : make_asked (asked a).serves (asked a).admission (asked a).sheet (asked a).check
+    ≡ make_asked (asked b).serves (asked b).admission (asked b).sheet (asked b).check =
+    λ i. make_asked (p i) (q i) (r i) (t i) in
+    u
+
 pub answers-alike : AnswersAlike
-answers-alike a b same cs t =
+answers-alike a b same cs =
+    let e = same_asked a b same in
+    (ap (λ x. answers_from x empty_book cs) e, ap (λ x. book_after x cs) e)
+
+pub answers-alike_for_callers : AnswersAlikeForCallers
+answers-alike_for_callers a b same cs t =
     runs_alike (asked a) (asked b) (λ d r fd lr. same.admissions d fd r lr) same.sheets (λ d s fd bs. same.checks d fd s bs 64) empty_book tt cs t

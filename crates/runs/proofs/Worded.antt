@@ -19,7 +19,7 @@ use Rattle.runs.proofs.Admitted.{Admitted, AllAdmitted, Fitting, all_held, book_
 use Rattle.runs.proofs.Opens.{bytes_take, bytes_drop, sealed_ok, sealed_lawful}
 use Rattle.runs.proofs.Hands.{headed, ending, opened-word, fate_at, Agrees, fated}
 use Rattle.runs.proofs.Promised.{agrees}
-use Rattle.runs.proofs.Flipped.{frame-head, lawful_bytes, part_lengths, refuses_sure_flips}
+use Rattle.runs.proofs.Flipped.{frame-head, lawful_bytes, part_lengths, refuses_sure_flips_for_callers}
 
 -- the answer 47, where the check u that arrived first differs from that of the message t that arrived
 abbrev Caught : Model → Description → List ℕ → List ℕ → List ℕ → Result (List ℕ) Refusal → Type 0
@@ -163,5 +163,5 @@ refuses_sure_words a b ka kb match n s f e sent mask bm lm zero-head sure ds =
     subst (λ z. Follows b d s t u (taken (asked b) y z) (taken (asked b) y g)) (sym l.is_frame)
     (subst (λ z. Follows b d s t u (taken (asked b) y (frame n d s c)) (taken (asked b) y z)) (sym is-g)
     (follows b kb y yb n d s c t u bt lt lu (omega (arith, l.lawful.some)) (agrees a b ka kb match x y xa yb n f s l fd))) in
-    let refused = refuses_sure_flips a b ka kb match n s f e sent mask bm lm sure ds in
+    let refused = refuses_sure_flips_for_callers a b ka kb match n s f e sent mask bm lm sure ds in
     subst (λ z. WordRefused b y z.description s f g) own (record { as_unaltered = k.0; by_check = λ q. k.1 q refused })

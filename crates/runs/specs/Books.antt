@@ -4,14 +4,10 @@ use Rattle.std.specs.Prelude.{◌≡◌, ℕ, suc, ◌≤◌, List, [], ◌∷�
 use Rattle.std.specs.List.{AllByRecursion as All}
 use Rattle.answer.specs.Refusal.{Refusal}
 use Rattle.code.specs.declared.description.Description.{Description}
-use Rattle.code.specs.Model.{Model, Asked, asked, Admits}
+use Rattle.code.specs.Model.{Model, asked, Admits}
 use Rattle.station.specs.declared.entry.Entry.{Entry}
 use Rattle.station.specs.Book.{PlainBook, entry_of, with_reach, held}
 use Rattle.station.specs.Calls.{Change, enter, narrow, retire, Ask, Call, change, ask, entering, narrowing, changing, book_after}
-
--- The bank admits every entry of the book. This holds after every list of calls.
-abbrev pub Admitted : Asked → PlainBook → Type 0
-Admitted a b = All (λ e. a.admission e.description e.reach ≡ Ok tt) b.entries
 
 -- The number whose entry a call can change.
 abbrev pub about : Call → Option ℕ

@@ -8,7 +8,7 @@ use Rattle.poly.specs.Poly.{string}
 use Rattle.words.specs.Flips.{Bytes, Sure}
 use Rattle.code.specs.declared.description.Description.{Description}
 use Rattle.code.specs.declared.description.Sheet.{Sheet}
-use Rattle.code.specs.Model.{Model, Asked, asked, sheet_at, Keeps, MatchesForCallers, MeansTheSameForCallers, LawfulMessage}
+use Rattle.code.specs.Model.{Model, Asked, asked, sheet_at, Keeps, Matches, MeansTheSame, MatchesForCallers, MeansTheSameForCallers, LawfulMessage}
 use Rattle.station.specs.declared.entry.Entry.{Entry}
 use Rattle.station.specs.Layout.{layout}
 use Rattle.station.specs.Book.{PlainBook, held}
@@ -49,6 +49,13 @@ pub record Sent (a : Model) (n : ℕ) (s f : List ℕ) (e : Entry) : Type 0 wher
 -- Sure flips are refused at every station with a matching bank, whatever either book holds.
 abbrev pub RefusesSureFlips : Type 0
 RefusesSureFlips =
+    (a b : Model) → Keeps a → Keeps b → Matches a b → (n : ℕ) (s f : List ℕ) (e : Entry) → Sent a n s f e
+    → (mask : List ℕ) → Bytes mask → length mask ≡ length f → SureFlips (sheet_at a e.description e.reach) mask
+    → (ds : List Call) → is_ok (taken (asked b) (book_after (asked b) ds) (altered f mask)) ≡ false
+
+-- .. also where the banks match at all that a caller can pass, and maybe not at other numbers
+abbrev pub RefusesSureFlipsForCallers : Type 0
+RefusesSureFlipsForCallers =
     (a b : Model) → Keeps a → Keeps b → MatchesForCallers a b → (n : ℕ) (s f : List ℕ) (e : Entry) → Sent a n s f e
     → (mask : List ℕ) → Bytes mask → length mask ≡ length f → SureFlips (sheet_at a e.description e.reach) mask
     → (ds : List Call) → is_ok (taken (asked b) (book_after (asked b) ds) (altered f mask)) ≡ false
@@ -75,18 +82,25 @@ pub record FirstDiffer (xs ys : List ℕ) (p : ℕ) : Type 0 where
   pub here : ¬ (slice_index xs p ≡ slice_index ys p)
 
 -- What a book makes of an unaltered frame with the number n, the description d and a word of w bytes whose message is s:
--- the message exactly where the description is held with reach enough. Else nothing is held under n: 23 at 1; or another description: then the ten
--- bytes of both have a first difference, at p, and 45 at 2 + p is the answer; or the reach is too short: 32 at 12.
+-- the message exactly where the description is held with reach enough; else 23 at 1, 45 at the first differing byte of 2 to 11, or 32 at 12.
 pub record Fate (b : PlainBook) (n : ℕ) (d : Description) (w : ℕ) (s : List ℕ) (x : Result (List ℕ) Refusal) : Type 0 where
   pub exactly : (t : List ℕ) → (x ≡ Ok t) ↔ (HoldsEnough b n d w × (t ≡ s))
   pub unheld : held b n ≡ None → x ≡ Err (refusal 23 Book 1)
-  pub unlike : (own : Entry) → held b n ≡ Some own → ¬ (own.description ≡ d)
+  pub unlike : (own : Entry) (p : ℕ) → held b n ≡ Some own → FirstDiffer (coded d) (coded own.description) p → x ≡ Err (refusal 45 Frame (2 + p))
+  -- the ten bytes of another description have such a place
+  pub apart : (own : Entry) → held b n ≡ Some own → ¬ (own.description ≡ d)
       → (p : ℕ) × FirstDiffer (coded d) (coded own.description) p × (x ≡ Err (refusal 45 Frame (2 + p)))
   pub too_long : (own : Entry) → held b n ≡ Some own → own.description ≡ d → own.reach < w → x ≡ Err (refusal 32 Frame 12)
 
 -- An unaltered frame has that fate at every station with a matching bank, whatever either book holds.
 abbrev pub HandsOverUnaltered : Type 0
 HandsOverUnaltered =
+    (a b : Model) → Keeps a → Keeps b → Matches a b → (n : ℕ) (s f : List ℕ) (e : Entry) → Sent a n s f e
+    → (ds : List Call) → Fate (book_after (asked b) ds) n e.description (length (drop layout.size f)) s (taken (asked b) (book_after (asked b) ds) f)
+
+-- .. also where the banks match at all that a caller can pass
+abbrev pub HandsOverUnalteredForCallers : Type 0
+HandsOverUnalteredForCallers =
     (a b : Model) → Keeps a → Keeps b → MatchesForCallers a b → (n : ℕ) (s f : List ℕ) (e : Entry) → Sent a n s f e
     → (ds : List Call) → Fate (book_after (asked b) ds) n e.description (length (drop layout.size f)) s (taken (asked b) (book_after (asked b) ds) f)
 
@@ -109,6 +123,12 @@ RefusesSureWords =
 -- Banks that mean the same make stations that answer alike, call by call.
 abbrev pub AnswersAlike : Type 0
 AnswersAlike =
+    (a b : Model) → MeansTheSame a b → (cs : List Call)
+    → (answers_from (asked a) empty_book cs ≡ answers_from (asked b) empty_book cs) × (book_after (asked a) cs ≡ book_after (asked b) cs)
+
+-- .. and so do banks that mean the same at all that a caller can pass, to the calls that a program can make
+abbrev pub AnswersAlikeForCallers : Type 0
+AnswersAlikeForCallers =
     (a b : Model) → MeansTheSameForCallers a b → (cs : List Call) → All Typed cs
     → (answers_from (asked a) empty_book cs ≡ answers_from (asked b) empty_book cs) × (book_after (asked a) cs ≡ book_after (asked b) cs)
 

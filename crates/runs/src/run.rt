@@ -5,7 +5,7 @@ ghost use Rattle.answer.specs.Refusal.{if_ok};
 ghost use Rattle.code.specs.Model.{asked};
 ghost use Rattle.station.specs.Book.{empty_book};
 ghost use Rattle.station.specs.Calls.{Typed, answer, answers_from, book_after, copies, step};
-ghost use Rattle.runs.specs.Books.{Admitted};
+ghost use Rattle.station.specs.Fitting.{Admitted, answer_fitting};
 ghost use Rattle.station.specs.Items.{items};
 ghost use Rattle.runs.specs.Pledge.{StationsPromise};
 ghost use Rattle.runs.specs.Numbers.{AllByNumbers};
@@ -23,7 +23,8 @@ pub fn perform<'a, K: Kind>(
     station: &mut Station<K>,
     call: Call<'a>,
 ) -> Result<Outcome<'a>, AllocError>
-    ensures answer { IfOk result (λ o. outcome_seen o ≡ answer (asked (K.model station.old.bank)) (items station.old.book) (plain_call call.entry)) }
+    ensures answer { IfOk result (λ o. Admitted (asked (K.model station.old.bank)) (items station.old.book) → outcome_seen o ≡ answer (asked (K.model station.old.bank)) (items station.old.book) (plain_call call.entry)) }
+    ensures any { IfOk result (λ o. outcome_seen o ≡ answer_fitting (asked (K.model station.old.bank)) (items station.old.book) (plain_call call.entry)) }
     ensures needs { copies (plain_call call.entry) ≡ false → is_ok result ≡ true }
     ensures book { items station.new.book ≡ if_ok result (step (asked (K.model station.old.bank)) (items station.old.book) (plain_call call.entry)) (items station.old.book) }
     ensures bank { K.model station.new.bank ≡ K.model station.old.bank }

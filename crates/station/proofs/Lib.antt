@@ -6,3 +6,5 @@ pub mod Places
 pub mod Shift
 pub mod Taken
 pub mod Writing
+pub mod Sealed
+pub mod Admission

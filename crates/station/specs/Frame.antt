@@ -57,21 +57,16 @@ abbrev pub alike : ℕ → ℕ → Option ℕ → Result (Unit {0}) Refusal
 alike number start None = Ok tt
 alike number start (Some i) = Err (refusal number Frame (start + i))
 
--- The frame that seal writes by the entry e, where the output has `room` bytes. No check is longer than 64 bytes. The last rule, that the check
--- is as long as the sheet says, is never broken where a bank that keeps its laws admitted the entry.
-abbrev pub sealed_by : Asked → Entry → ℕ → List ℕ → ℕ → Result (List ℕ) Refusal
-sealed_by a e n message room =
+-- The frame that seal writes where the output has `room` bytes. No check is longer than 64 bytes.
+abbrev pub sealed : Asked → PlainBook → ℕ → List ℕ → ℕ → Result (List ℕ) Refusal
+sealed a b n message room =
+    then (entry_at b n) (λ e.
     then (a.sheet e.description) (λ s.
     then (need (nat_lt 0 (length message) && length message % s.tuple == 0) (refusal 31 Frame (length message))) (λ _.
     then (need (nat_le (length message + s.check) e.reach) (refusal 32 Frame 12)) (λ _.
     then (need (nat_le (layout.size + (length message + s.check)) room) (refusal 33 Frame room)) (λ _.
     then (a.check e.description message 64) (λ c.
-    then (need (length c == s.check) (refusal 33 Frame room)) (λ _.
     Ok (frame n e.description message c)))))))
-
--- Seal at a book: the number's entry, else 23; then the frame that is written by it.
-abbrev pub sealed : Asked → PlainBook → ℕ → List ℕ → ℕ → Result (List ℕ) Refusal
-sealed a b n message room = then (entry_at b n) (λ e. sealed_by a e n message room)
 
 -- Take by the entry e: `ten` is the description in the head, w the word.
 abbrev pub opened : Asked → Entry → List ℕ → List ℕ → Result (List ℕ) Refusal

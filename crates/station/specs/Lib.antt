@@ -4,3 +4,4 @@ pub mod Frame
 pub mod Calls
 pub mod Items
 pub mod Parts
+pub mod Fitting

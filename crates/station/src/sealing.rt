@@ -2,7 +2,8 @@
 ghost use Rattle.std.specs.Prelude.{◌≡◌, ◌+◌, ◌^◌, ◌<◌, ◌≤◌, ◌++◌, length, drop};
 ghost use Rattle.answer.specs.Refusal.{read};
 ghost use Rattle.code.specs.Model.{asked, length_of, written};
-ghost use Rattle.station.specs.Frame.{frame, sealed_by};
+ghost use Rattle.station.specs.Fitting.{sealed_by};
+ghost use Rattle.station.specs.Frame.{frame};
 
 use crate::checking::check_of;
 use crate::entry::Entry;

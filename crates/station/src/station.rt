@@ -5,6 +5,7 @@ ghost use Rattle.code.specs.Model.{asked, length_of, written};
 ghost use Rattle.station.specs.Book.{empty_book};
 ghost use Rattle.station.specs.Calls.{Call, Change, entering, narrowing, retiring, step};
 ghost use Rattle.station.specs.Frame.{sealed, taken};
+ghost use Rattle.station.specs.Fitting.{Admitted, sealed_fitting};
 ghost use Rattle.station.specs.Items.{items, seen};
 
 use crate::entry::Entry;
@@ -80,8 +81,10 @@ impl<K: Kind> Station<K> {
 
     // Writes the frame of a message at the start of the output, and answers its length.
     pub fn seal(&mut self, number: u8, message: &[u8], out: &mut [u8]) -> Result<usize, Fault>
-        ensures answer { read result ≡ length_of (sealed (asked (K.model self.old.bank)) (items self.old.book) number message.now (length out.old)) }
-        ensures written { out.new ≡ written (sealed (asked (K.model self.old.bank)) (items self.old.book) number message.now (length out.old)) out.old }
+        ensures any { read result ≡ length_of (sealed_fitting (asked (K.model self.old.bank)) (items self.old.book) number message.now (length out.old)) }
+        ensures left { out.new ≡ written (sealed_fitting (asked (K.model self.old.bank)) (items self.old.book) number message.now (length out.old)) out.old }
+        ensures answer { Admitted (asked (K.model self.old.bank)) (items self.old.book) → read result ≡ length_of (sealed (asked (K.model self.old.bank)) (items self.old.book) number message.now (length out.old)) }
+        ensures written { Admitted (asked (K.model self.old.bank)) (items self.old.book) → out.new ≡ written (sealed (asked (K.model self.old.bank)) (items self.old.book) number message.now (length out.old)) out.old }
         ensures book { self.new.book ≡ self.old.book }
         ensures bank { K.model self.new.bank ≡ K.model self.old.bank }
     {

@@ -10,7 +10,8 @@ use Rattle.station.specs.Items.{items}
 use Rattle.runs.specs.Outcomes.{plain_calls, outcomes_seen}
 use Rattle.runs.specs.Numbers.{AllByNumbers}
 use Rattle.runs.specs.Ruling.{AllByRules}
-use Rattle.runs.proofs.Admitted.{AllAdmitted, book_admitted}
+use Rattle.station.specs.Fitting.{all_admitted}
+use Rattle.station.proofs.Admission.{run-admitted}
 use Rattle.runs.proofs.Numbers.{all_by_numbers}
 use Rattle.runs.proofs.EveryCall.{runs_by_rules}
 use Rattle.runs.proofs.Runs.{turn}
@@ -46,7 +47,7 @@ returns g c =
       outcomes = outcomes;
       book = book;
       bank = l.invariant.2 ∙ bank;
-      admitted = subst (AllAdmitted (m c.args.bank)) (sym book) (book_admitted (m c.args.bank) calls);
+      admitted = ap (λ p. all_admitted (asked (m c.args.bank)) p.entries) book ∙ run-admitted (asked (m c.args.bank)) empty_book calls refl;
       few = simp length-take (omega (arith, b.fits));
       numbers =
           subst (AllByNumbers calls) (sym outcomes)

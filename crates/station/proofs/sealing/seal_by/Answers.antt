@@ -7,7 +7,8 @@ use Rattle.answer.specs.Rules.{need}
 use Rattle.code.specs.declared.description.Sheet.{Sheet}
 use Rattle.code.specs.Model.{Asked, asked, length_of, written}
 use Rattle.station.specs.declared.entry.Entry.{Entry}
-use Rattle.station.specs.Frame.{frame, sealed_by}
+use Rattle.station.specs.Frame.{frame}
+use Rattle.station.specs.Fitting.{sealed_by}
 use Rattle.station.proofs.Chains.{then_at}
 use Rattle.station.proofs.sealing.seal_by.Goals as goal
 
