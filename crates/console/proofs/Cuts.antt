@@ -2,7 +2,7 @@
 -- Assumes nothing.
 use Rattle.std.proofs.Common.{◌≡◌, ℕ, zero, suc, ◌<◌, ◌≤◌, Bool, true, false, cond, eqb, List, [], ◌∷◌, length, get_or, take, drop, refl, ap, ◌∙◌, inl, inr, arith, eq-eqb, ne_eqb}
 use Rattle.std.proofs.lemmas.Bool.{cases_eq}
-use Rattle.std.specs.List.{AllByRecursion as All}
+use Rattle.std.specs.List.{AllByRecursion}
 use Rattle.console.specs.Lines.{onto, lines_of, ended, closed, LinesRejoin}
 
 -- ---- the first line and the others
@@ -51,13 +51,13 @@ rejoined (b ∷ c ∷ bs) =
 
 -- No 0A in a line.
 abbrev Whole : List ℕ → Type 0
-Whole line = All (λ b. b ≡ 10 → ⊥) line
+Whole line = AllByRecursion (λ b. b ≡ 10 → ⊥) line
 
-whole-onto : (b : ℕ) (lines : List (List ℕ)) → (b ≡ 10 → ⊥) → All Whole lines → All Whole (onto b lines)
+whole-onto : (b : ℕ) (lines : List (List ℕ)) → (b ≡ 10 → ⊥) → AllByRecursion Whole lines → AllByRecursion Whole (onto b lines)
 whole-onto b [] e h = ((e, tt), tt)
 whole-onto b (line ∷ lines) e h = ((e, h.0), h.1)
 
-whole : (s : List ℕ) → All Whole (lines_of s)
+whole : (s : List ℕ) → AllByRecursion Whole (lines_of s)
 whole [] = tt
 whole (b ∷ bs) =
     elim (cases_eq b 10) [

@@ -1,7 +1,7 @@
 -- The calls of lines are calls that a program can make: their numbers fit their bytes.
 -- Assumes nothing.
 use Rattle.std.proofs.Common.{ℕ, zero, suc, ◌+◌, ◌^◌, ◌<◌, List, [], ◌∷◌, map, replicate, Ok, Err, Result, arith}
-use Rattle.std.specs.List.{AllByRecursion as All}
+use Rattle.std.specs.List.{AllByRecursion}
 use Rattle.answer.specs.Refusal.{Refusal}
 use Rattle.words.specs.Flips.{Bytes}
 use Rattle.code.specs.Model.{Fits}
@@ -59,11 +59,11 @@ deed_typed (Ok remark) = tt
 deed_typed (Ok empty) = tt
 deed_typed (Err r) = tt
 
-add : (d : Deed) (ds : List Deed) → TypedDeed d → All Typed (calls_of ds) → All Typed (calls_of (d ∷ ds))
+add : (d : Deed) (ds : List Deed) → TypedDeed d → AllByRecursion Typed (calls_of ds) → AllByRecursion Typed (calls_of (d ∷ ds))
 add nothing ds t ts = ts
 add (refused r) ds t ts = ts
 add (makes c) ds t ts = (t, ts)
 
-pub calls_typed : (lines : List (List ℕ)) → All Typed (calls_of (map deed_of lines))
+pub calls_typed : (lines : List (List ℕ)) → AllByRecursion Typed (calls_of (map deed_of lines))
 calls_typed [] = tt
 calls_typed (line ∷ lines) = add (deed_of line) (map deed_of lines) (deed_typed (line_of line)) (calls_typed lines)

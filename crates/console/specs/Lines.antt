@@ -1,7 +1,7 @@
 -- The lines of an input.
 -- Assumes nothing.
 use Rattle.std.specs.Prelude.{◌≡◌, ℕ, cond, List, [], ◌∷◌, ◌++◌, ◌==◌, ◌≢◌}
-use Rattle.std.specs.List.{AllByRecursion as All}
+use Rattle.std.specs.List.{AllByRecursion}
 
 -- A byte in front of the first line; alone it is a line of its own.
 abbrev pub onto : ℕ → List (List ℕ) → List (List ℕ)
@@ -28,4 +28,4 @@ closed (b ∷ c ∷ bs) = b ∷ closed (c ∷ bs)
 
 -- The lines of every input, with a 0A after each, are that input, and no line has a 0A.
 abbrev pub LinesRejoin : Type 0
-LinesRejoin = (s : List ℕ) → (ended (lines_of s) ≡ closed s) × All (All (λ b. b ≢ 10)) (lines_of s)
+LinesRejoin = (s : List ℕ) → (ended (lines_of s) ≡ closed s) × AllByRecursion (AllByRecursion (λ b. b ≢ 10)) (lines_of s)

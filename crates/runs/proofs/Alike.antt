@@ -1,7 +1,7 @@
 -- Stations over banks that answer alike at what a caller can pass answer alike, call by call.
 -- Assumes nothing.
 use Rattle.std.proofs.Common.{◌≡◌, ℕ, ◌+◌, ◌-◌, ◌%◌, ◌^◌, ◌<◌, ◌&&◌, eqb, ltb, leb, List, [], ◌∷◌, length, get_or, take, drop, set, Ok, Result, refl, ap, ◌∙◌, ap₂}
-use Rattle.std.specs.List.{AllByRecursion as All}
+use Rattle.std.specs.List.{AllByRecursion}
 use Rattle.answer.specs.declared.fault.Layer.TheVariants.{Book, Frame}
 use Rattle.answer.specs.Refusal.{Refusal, refusal, if_ok}
 use Rattle.answer.specs.Rules.{then, need}
@@ -39,7 +39,7 @@ module _ (a b : Asked)
 
   -- ---- at a book whose entries fit
 
-  module _ (p : PlainBook) (fit : All Fitting p.entries) where
+  module _ (p : PlainBook) (fit : AllByRecursion Fitting p.entries) where
     fits : (n : ℕ) (e : Entry) → entry_at p n ≡ Ok e → Fits e.description
     fits n e h = (all_held Fitting p n e fit (entry_ok p n e h)).1
 
@@ -88,7 +88,7 @@ module _ (a b : Asked)
 
   -- ---- call by call
 
-  pub runs_alike : (p : PlainBook) → All Fitting p.entries → (cs : List Call) → All Typed cs
+  pub runs_alike : (p : PlainBook) → AllByRecursion Fitting p.entries → (cs : List Call) → AllByRecursion Typed cs
       → (answers_from a p cs ≡ answers_from b p cs) × (run a p cs ≡ run b p cs)
   runs_alike p fit [] t = (refl, refl)
   runs_alike p fit (c ∷ cs) t =

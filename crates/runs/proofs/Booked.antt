@@ -2,7 +2,7 @@
 -- Assumes nothing.
 use Rattle.std.proofs.Common.{◌≡◌, ℕ, suc, ◌<◌, ◌≤◌, Bool, true, false, cond, not, eqb, ltb, List, [], ◌∷◌, ◌++◌, length, is_some, Some, None, Ok, Err, Option, Result, sym, refl, ap, ◌∙◌, subst, add-one, arith, length-append, ltb-true, eq-eqb, ne_eqb, eqb-true}
 use borrow.Author.Tests.{both_ways}
-use Rattle.std.specs.List.{AllByRecursion as All}
+use Rattle.std.specs.List.{AllByRecursion}
 use Rattle.answer.specs.declared.fault.Layer.TheVariants.{Book}
 use Rattle.answer.specs.Refusal.{Refusal, refusal, if_ok}
 use Rattle.answer.specs.Rules.{then, need}
@@ -118,12 +118,12 @@ still_own x es e h q = go (eqb x.number e.number) refl
         no_way (cc)
     go false t = q
 
-all_own : (x : Entry) (es fs : List Entry) → held_in es x.number ≡ None → All (λ e. held_in es e.number ≡ Some e) fs
-    → All (λ e. held_in (x ∷ es) e.number ≡ Some e) fs
+all_own : (x : Entry) (es fs : List Entry) → held_in es x.number ≡ None → AllByRecursion (λ e. held_in es e.number ≡ Some e) fs
+    → AllByRecursion (λ e. held_in (x ∷ es) e.number ≡ Some e) fs
 all_own x es [] h a = tt
 all_own x es (f ∷ fs) h a = (still_own x es f h a.0, all_own x es fs h a.1)
 
-own_numbers : (es : List Entry) → Distinct es → All (λ e. held_in es e.number ≡ Some e) es
+own_numbers : (es : List Entry) → Distinct es → AllByRecursion (λ e. held_in es e.number ≡ Some e) es
 own_numbers [] d = tt
 own_numbers (x ∷ es) d =
     (cond_t (Some x) (held_in es x.number) (eq-eqb x.number x.number refl), all_own x es es d.0 (own_numbers es d.1))

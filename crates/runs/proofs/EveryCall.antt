@@ -2,7 +2,7 @@
 -- Assumes nothing.
 use Rattle.std.proofs.Common.{◌≡◌, ℕ, zero, suc, ◌+◌, ◌%◌, ◌^◌, ◌<◌, ◌≤◌, true, false, not, ◌&&◌, eqb, ltb, leb, List, [], ◌∷◌, ◌++◌, length, set, is_some, Some, None, Ok, Err, Option, Result, sym, refl, ap, ◌∙◌, subst, arith, ltb-false, ltb-true, lt-ltb, eq-eqb, eqb-true, leb-true}
 use borrow.Author.Tests.{both_ways}
-use Rattle.std.specs.List.{AllByRecursion as All}
+use Rattle.std.specs.List.{AllByRecursion}
 use Rattle.answer.specs.declared.fault.Layer.TheVariants.{Book, Frame}
 use Rattle.answer.specs.Refusal.{Refusal, refusal}
 use Rattle.answer.specs.Rules.{then, need}
@@ -154,7 +154,7 @@ module _ (m : Model) (keeps : Keeps m) (b : PlainBook) (ad : AllAdmitted m b) wh
 pub answers_by_rules : AnswersByRules
 answers_by_rules m keeps cs c t = by_its_rules m keeps (book_after (asked m) cs) (book_admitted m cs) c t
 
-all_by_rules : (m : Model) → Keeps m → (b : PlainBook) → AllAdmitted m b → (cs : List Call) → All Typed cs
+all_by_rules : (m : Model) → Keeps m → (b : PlainBook) → AllAdmitted m b → (cs : List Call) → AllByRecursion Typed cs
     → AllByRules m b cs (answers_from (asked m) b cs)
 all_by_rules m keeps b ad [] t = tt
 all_by_rules m keeps b ad (c ∷ cs) t =
@@ -172,7 +172,7 @@ unrefused m keeps e a = record {
   check = check_answers m keeps e.description e.reach a;
 }
 
-all_unrefused : (m : Model) → Keeps m → (es : List Entry) → All (Admitted m) es → All (Unrefused m) es
+all_unrefused : (m : Model) → Keeps m → (es : List Entry) → AllByRecursion (Admitted m) es → AllByRecursion (Unrefused m) es
 all_unrefused m keeps [] a = tt
 all_unrefused m keeps (e ∷ es) a = (unrefused m keeps e a.0, all_unrefused m keeps es a.1)
 

@@ -1,7 +1,7 @@
 -- Sure flips are refused: those in the head by the head's code, those in the word by the entry's.
 -- Assumes nothing.
 use Rattle.std.proofs.Common.{◌≡◌, ℕ, ◌+◌, ◌-◌, ◌^◌, ◌<◌, ◌≤◌, min, Bool, true, false, cond, eqb, leb, List, ◌++◌, length, get_or, take, drop, is_ok, Ok, Err, Result, sym, refl, ap, ◌∙◌, subst, ap₂, lt_of_le_of_lt, arith, lit<, lit≤, length-append, length-drop, length-take, ne_eqb, le-leb}
-use Rattle.std.specs.List.{AllByRecursion as All}
+use Rattle.std.specs.List.{AllByRecursion}
 use Rattle.answer.specs.declared.fault.Layer.TheVariants.{Frame}
 use Rattle.answer.specs.Refusal.{Refusal, refusal}
 use Rattle.answer.specs.Rules.{then, need}
@@ -33,7 +33,7 @@ pub frame-word : (m : Model) (b : PlainBook) (n : ℕ) (f s : List ℕ) (l : Law
 frame-word m b n f s l = ap (drop 16) l.is_frame
 
 -- a lawful frame is bytes
-pub lawful_bytes : (m : Model) (b : PlainBook) (n : ℕ) (f s : List ℕ) → Keeps m → AllAdmitted m b → All Fitting b.entries
+pub lawful_bytes : (m : Model) (b : PlainBook) (n : ℕ) (f s : List ℕ) → Keeps m → AllAdmitted m b → AllByRecursion Fitting b.entries
     → LawfulFrame m b n f s → Bytes f
 lawful_bytes m b n f s keeps admitted fitting l =
     let e = l.entry in

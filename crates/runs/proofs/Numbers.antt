@@ -2,7 +2,7 @@
 -- Assumes nothing.
 use Rattle.std.proofs.Common.{◌≡◌, ℕ, zero, suc, ◌+◌, ◌-◌, ◌%◌, ◌<◌, ◌≤◌, Bool, true, false, cond, not, ◌&&◌, ◌||◌, eqb, ltb, leb, List, [], ◌∷◌, ◌++◌, length, get_or, take, drop, set, is_some, Some, None, Ok, Err, Option, Result, sym, refl, ap, ◌∙◌, arith, length-take, ltb-true, eqb-true, leb-true}
 use borrow.Author.Tests.{eqb-false}
-use Rattle.std.specs.List.{AllByRecursion as All}
+use Rattle.std.specs.List.{AllByRecursion}
 use Rattle.answer.specs.declared.fault.Layer.TheVariants.{Book, Frame}
 use Rattle.answer.specs.Refusal.{Refusal, refusal, number_of}
 use Rattle.answer.specs.Rules.{Rule, by_rules, then, need}
@@ -30,7 +30,7 @@ wider_one n k ns ms true t h f e = ap (among ms) (eqb-true k n t) ∙ h
 wider_one n k ns ms false t h f e = f e
 
 -- a list that has all numbers of another
-wider : (ns ms : List ℕ) → All (In ms) ns → (k : ℕ) → In ns k → In ms k
+wider : (ns ms : List ℕ) → AllByRecursion (In ms) ns → (k : ℕ) → In ns k → In ms k
 wider [] ms a k e = no_way (cc)
 wider (n ∷ ns) ms a k e = wider_one n k ns ms (eqb k n) refl a.0 (wider ns ms a.1 k) e
 
@@ -47,8 +47,8 @@ ranged (suc n) least k p q = go (eqb k least) refl (ranged n (least + 1) k)
     go true t f = refl
     go false t f = let ne = eqb-false k least t in f (omega arith) (omega arith)
 
-all_between : (n least most : ℕ) (ms : List ℕ) → All (In ms) (from least n) → least + n ≡ most + 1 → (rs : List Rule) → All (Between least most) rs
-    → All (λ r. In ms r.otherwise.number) rs
+all_between : (n least most : ℕ) (ms : List ℕ) → AllByRecursion (In ms) (from least n) → least + n ≡ most + 1 → (rs : List Rule) → AllByRecursion (Between least most) rs
+    → AllByRecursion (λ r. In ms r.otherwise.number) rs
 all_between n least most ms a e [] h = tt
 all_between n least most ms a e (r ∷ rs) h =
     let k = r.otherwise.number in
@@ -56,7 +56,7 @@ all_between n least most ms a e (r ∷ rs) h =
     let high = h.0.1 in
     (wider (from least n) ms a k (ranged n least k low (omega arith)), all_between n least most ms a e rs h.1)
 
-all_join : (P : Rule → Type 0) (rs ss : List Rule) → All P rs → All P ss → All P (rs ++ ss)
+all_join : (P : Rule → Type 0) (rs ss : List Rule) → AllByRecursion P rs → AllByRecursion P ss → AllByRecursion P (rs ++ ss)
 all_join P [] ss h k = k
 all_join P (r ∷ rs) ss h k = (h.0, all_join P rs ss h.1 k)
 
@@ -102,7 +102,7 @@ module _ {B : Type 0} (ns : List ℕ) where
   one_rule true x z p q = p
   one_rule false x z p q = q
 
-  by_rules_lem : (v : B) (rs : List Rule) → All (λ r. In (0 ∷ ns) r.otherwise.number) rs → Within ns (by_rules rs v)
+  by_rules_lem : (v : B) (rs : List Rule) → AllByRecursion (λ r. In (0 ∷ ns) r.otherwise.number) rs → Within ns (by_rules rs v)
   by_rules_lem v [] a = refl
   by_rules_lem v (r ∷ rs) a = one_rule r.asks (by_rules rs v) r.otherwise (by_rules_lem v rs a.1) a.0
 
@@ -155,7 +155,7 @@ module _ (m : Model) (keeps : Keeps m) (numbered : Numbered m) (b : PlainBook) (
       ns : List ℕ
       ns = 23 ∷ 31 ∷ 32 ∷ 33 ∷ []
 
-  module _ (ns : List ℕ) (has : All (In (0 ∷ ns)) take_numbers) where
+  module _ (ns : List ℕ) (has : AllByRecursion (In (0 ∷ ns)) take_numbers) where
     own : (k : ℕ) → In take_numbers k → In (0 ∷ ns) k
     own k h = wider take_numbers (0 ∷ ns) has k h
 

@@ -1,7 +1,7 @@
 -- The plain book as a law over runs: what it holds after any calls, and what one call more changes.
 -- Assumes nothing.
 use Rattle.std.specs.Prelude.{◌≡◌, ℕ, suc, ◌≤◌, List, [], ◌∷◌, ◌++◌, length, Some, None, Ok, Err, Option}
-use Rattle.std.specs.List.{AllByRecursion as All}
+use Rattle.std.specs.List.{AllByRecursion}
 use Rattle.answer.specs.Refusal.{Refusal}
 use Rattle.code.specs.declared.description.Description.{Description}
 use Rattle.code.specs.Model.{Model, asked, Admits}
@@ -31,7 +31,7 @@ pub record BookLaw (m : Model) (cs : List Call) : Type 0 where
   -- it has at most 16 entries
   pub most : length (after m cs).entries ≤ 16
   -- each is held under its own number, so that no number stands twice
-  pub own : All (λ e. held (after m cs) e.number ≡ Some e) (after m cs).entries
+  pub own : AllByRecursion (λ e. held (after m cs) e.number ≡ Some e) (after m cs).entries
   -- what is held under a number has that number, and its description and reach are admitted
   pub numbered : (n : ℕ) (e : Entry) → held (after m cs) n ≡ Some e → e.number ≡ n
   pub admitted : (n : ℕ) (e : Entry) → held (after m cs) n ≡ Some e → Admits m e.description e.reach

@@ -1,7 +1,7 @@
 -- All that stations promise, in one record: what the contract of a run of calls carries.
 -- Assumes nothing.
 use Rattle.std.specs.Prelude.{◌≡◌, ℕ, Bool, List}
-use Rattle.std.specs.List.{AllByRecursion as All}
+use Rattle.std.specs.List.{AllByRecursion}
 use Rattle.code.specs.Model.{Model, asked, Keeps, Numbered, Matches, MatchesForCallers}
 use Rattle.code.specs.Bank.{joined}
 use Rattle.code.specs.ForCallers.{CarryTheSame}
@@ -54,7 +54,7 @@ ThreeKindsMatchOverTwo = (p q r s : ℕ → ℕ → Bool) → MatchesForCallers 
 -- .. and where their engines carry the same generators, stations over them answer alike to the calls that a program can make.
 abbrev pub ThreeKindsAlikeOverTwo : Type 0
 ThreeKindsAlikeOverTwo =
-    (p q r s : ℕ → ℕ → Bool) → CarryTheSame p r → CarryTheSame q s → (cs : List Call) → All Typed cs
+    (p q r s : ℕ → ℕ → Bool) → CarryTheSame p r → CarryTheSame q s → (cs : List Call) → AllByRecursion Typed cs
     → (answers_from (asked (three_kinds_over p q)) empty_book cs ≡ answers_from (asked (three_kinds_over r s)) empty_book cs)
     × (book_after (asked (three_kinds_over p q)) cs ≡ book_after (asked (three_kinds_over r s)) cs)
 

@@ -1,7 +1,7 @@
 -- What stations promise one another, over every list of calls and every pair of banks that keep the two laws.
 -- Assumes nothing.
 use Rattle.std.specs.Prelude.{◌≡◌, ℕ, ◌+◌, ◌<◌, ◌≤◌, false, cond, ◌↔◌, List, [], ◌∷◌, length, take, drop, is_ok, Some, None, Ok, Err, Result, ◌==◌, bit_xor, slice_index}
-use Rattle.std.specs.List.{AllByRecursion as All}
+use Rattle.std.specs.List.{AllByRecursion}
 use Rattle.answer.specs.declared.fault.Layer.TheVariants.{Book, Frame}
 use Rattle.answer.specs.Refusal.{Refusal, refusal}
 use Rattle.poly.specs.Poly.{string}
@@ -40,7 +40,7 @@ pub record LawfulFrame (m : Model) (b : PlainBook) (n : ℕ) (f s : List ℕ) : 
 -- A station over the bank a, after some calls, sealed s under n by the entry e into f.
 pub record Sent (a : Model) (n : ℕ) (s f : List ℕ) (e : Entry) : Type 0 where
   pub calls : List Call
-  pub typed : All Typed calls
+  pub typed : AllByRecursion Typed calls
   pub room : ℕ
   pub bytes : Bytes s
   pub by : held (book_after (asked a) calls) n ≡ Some e
@@ -129,7 +129,7 @@ AnswersAlike =
 -- .. and so do banks that mean the same at all that a caller can pass, to the calls that a program can make
 abbrev pub AnswersAlikeForCallers : Type 0
 AnswersAlikeForCallers =
-    (a b : Model) → MeansTheSameForCallers a b → (cs : List Call) → All Typed cs
+    (a b : Model) → MeansTheSameForCallers a b → (cs : List Call) → AllByRecursion Typed cs
     → (answers_from (asked a) empty_book cs ≡ answers_from (asked b) empty_book cs) × (book_after (asked a) cs ≡ book_after (asked b) cs)
 
 -- Sealing a taken frame's message under its number gives the frame back.

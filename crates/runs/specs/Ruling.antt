@@ -1,7 +1,7 @@
 -- The rules of each call as predicates, in their order: a call is refused by the first that is broken, and does its work where none is.
 -- Assumes nothing.
 use Rattle.std.specs.Prelude.{◌≡◌, ℕ, suc, ◌+◌, ◌-◌, ◌%◌, ◌<◌, ◌≤◌, true, ◌⊎◌, List, [], ◌∷◌, ◌++◌, length, take, drop, Some, Ok, Err, Result, slice_index, slice_set}
-use Rattle.std.specs.List.{AllByRecursion as All}
+use Rattle.std.specs.List.{AllByRecursion}
 use Rattle.answer.specs.declared.fault.Layer.{Layer}
 use Rattle.answer.specs.declared.fault.Layer.TheVariants.{Book, Frame}
 use Rattle.answer.specs.Refusal.{Refusal, refusal}
@@ -192,7 +192,7 @@ AllByRules m b (c ∷ cs) (x ∷ xs) = ByItsRules m b c x × AllByRules m (step 
 
 -- The answers of a run from the empty book.
 abbrev pub RunsByRules : Type 0
-RunsByRules = (m : Model) → Keeps m → (cs : List Call) → All Typed cs → AllByRules m empty_book cs (answers_from (asked m) empty_book cs)
+RunsByRules = (m : Model) → Keeps m → (cs : List Call) → AllByRecursion Typed cs → AllByRules m empty_book cs (answers_from (asked m) empty_book cs)
 
 -- ---- nothing else
 
@@ -206,4 +206,4 @@ pub record Unrefused (m : Model) (e : Entry) : Type 0 where
 
 -- Whatever calls came before, that holds of every entry in the book: so seal, take and trial never answer a refusal of the bank.
 abbrev pub HeldUnrefused : Type 0
-HeldUnrefused = (m : Model) → Keeps m → (cs : List Call) → All (Unrefused m) (book_after (asked m) cs).entries
+HeldUnrefused = (m : Model) → Keeps m → (cs : List Call) → AllByRecursion (Unrefused m) (book_after (asked m) cs).entries

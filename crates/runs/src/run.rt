@@ -1,6 +1,6 @@
 // One call as a value, and a list of them on a new station.
 ghost use Rattle.std.specs.Prelude.{◌≡◌, ◌≤◌, true, false, length, is_ok, IfOk};
-ghost use Rattle.std.specs.List.{AllByRecursion as All};
+ghost use Rattle.std.specs.List.{AllByRecursion};
 ghost use Rattle.answer.specs.Refusal.{if_ok};
 ghost use Rattle.code.specs.Model.{asked};
 ghost use Rattle.station.specs.Book.{empty_book};
@@ -67,7 +67,7 @@ fn run_all<'a, K: Kind + Drop>(
     ensures admitted { IfOk result (λ d. Admitted (asked (K.model bank)) (items d.station.book)) }
     ensures few { IfOk result (λ d. length (items d.station.book).entries ≤ 16) }
     ensures numbers { IfOk result (λ d. AllByNumbers (plain_calls calls.now) (outcomes_seen d.outcomes.items)) }
-    ensures ruled { IfOk result (λ d. (All Typed (plain_calls calls.now) → AllByRules (K.model bank) empty_book (plain_calls calls.now) (outcomes_seen d.outcomes.items))) }
+    ensures ruled { IfOk result (λ d. (AllByRecursion Typed (plain_calls calls.now) → AllByRules (K.model bank) empty_book (plain_calls calls.now) (outcomes_seen d.outcomes.items))) }
 {
     let mut station = Station::new(bank);
     let mut outcomes = Vec::new(heap);
@@ -98,7 +98,7 @@ pub fn run<'a, K: Kind + Drop>(
     ensures admitted { IfOk result (λ d. Admitted (asked (K.model bank)) (items d.station.book)) }
     ensures few { IfOk result (λ d. length (items d.station.book).entries ≤ 16) }
     ensures numbers { IfOk result (λ d. AllByNumbers (plain_calls calls.now) (outcomes_seen d.outcomes.items)) }
-    ensures ruled { IfOk result (λ d. (All Typed (plain_calls calls.now) → AllByRules (K.model bank) empty_book (plain_calls calls.now) (outcomes_seen d.outcomes.items))) }
+    ensures ruled { IfOk result (λ d. (AllByRecursion Typed (plain_calls calls.now) → AllByRules (K.model bank) empty_book (plain_calls calls.now) (outcomes_seen d.outcomes.items))) }
 {
     promises();
     run_all(heap, bank, calls)
