@@ -8,7 +8,7 @@ use Rattle.code.proofs.CrcLaws.{crc-keeps}
 use Rattle.code.proofs.ParityLaws.{parity_keeps}
 use Rattle.code.proofs.WeightedKeeps.{weighted-keeps}
 use Rattle.code.specs.Joined.{joined_keeps}
-use Rattle.code.specs.Numbers.{crc_numbered, parity_numbered, weighted_numbered, joined_numbered}
+use Rattle.code.proofs.Numbers.{crc_numbered, parity_numbered, weighted_numbered, joined_numbered}
 use Rattle.code.proofs.Comparing.{crc_matches, parity_matches, matches_reflexive, joined_matches, crc_means_the_same, parity_means_the_same, same_reflexive, joined_means_the_same}
 use Rattle.code.proofs.CallersCompared as callers
 use Rattle.runs.specs.Pledge.{three_kinds, three_kinds_over, ThreeKindsKeep, ThreeKindsMatch, ThreeKindsAlike, ThreeKindsKeepOverTwo, ThreeKindsNumberedOverTwo, ThreeKindsMatchOverTwo, ThreeKindsAlikeOverTwo, StationsPromise}

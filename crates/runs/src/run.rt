@@ -2,7 +2,7 @@
 ghost use Rattle.std.specs.Prelude.{◌≡◌, ◌≤◌, true, false, length, is_ok, IfOk};
 ghost use Rattle.std.specs.List.{AllByRecursion};
 ghost use Rattle.answer.specs.Refusal.{if_ok};
-ghost use Rattle.code.specs.Model.{asked};
+ghost use Rattle.code.specs.Model.{Numbered, asked};
 ghost use Rattle.station.specs.Book.{empty_book};
 ghost use Rattle.station.specs.Calls.{Typed, answer, answers_from, book_after, copies, step};
 ghost use Rattle.station.specs.Fitting.{Admitted, answer_fitting};
@@ -66,7 +66,7 @@ fn run_all<'a, K: Kind + Drop>(
     ensures bank { IfOk result (λ d. K.model d.station.bank ≡ K.model bank) }
     ensures admitted { IfOk result (λ d. Admitted (asked (K.model bank)) (items d.station.book)) }
     ensures few { IfOk result (λ d. length (items d.station.book).entries ≤ 16) }
-    ensures numbers { IfOk result (λ d. AllByNumbers (plain_calls calls.now) (outcomes_seen d.outcomes.items)) }
+    ensures numbers { IfOk result (λ d. Numbered (K.model bank) → AllByNumbers (plain_calls calls.now) (outcomes_seen d.outcomes.items)) }
     ensures ruled { IfOk result (λ d. (AllByRecursion Typed (plain_calls calls.now) → AllByRules (K.model bank) empty_book (plain_calls calls.now) (outcomes_seen d.outcomes.items))) }
 {
     let mut station = Station::new(bank);
@@ -84,8 +84,8 @@ fn promises()
 {}
 
 // Makes every call of a list, one after the other, on a new station over the bank: any list, refused calls included.
-// The outcomes are the defined ones, call by call, each with a number of its call's own and by its call's rules, and the book is the plain book; and so
-// all that is defined is promised: what stations over banks that keep the two laws make of one another's frames.
+// The outcomes are the defined ones, call by call, each by its call's rules, and with a number of its call's own over a bank that refuses by its own; and
+// the book is the plain book. So all that is defined is promised: what stations over banks that keep the two laws make of one another's frames.
 pub fn run<'a, K: Kind + Drop>(
     heap: Global,
     bank: K,
@@ -97,7 +97,7 @@ pub fn run<'a, K: Kind + Drop>(
     ensures bank { IfOk result (λ d. K.model d.station.bank ≡ K.model bank) }
     ensures admitted { IfOk result (λ d. Admitted (asked (K.model bank)) (items d.station.book)) }
     ensures few { IfOk result (λ d. length (items d.station.book).entries ≤ 16) }
-    ensures numbers { IfOk result (λ d. AllByNumbers (plain_calls calls.now) (outcomes_seen d.outcomes.items)) }
+    ensures numbers { IfOk result (λ d. Numbered (K.model bank) → AllByNumbers (plain_calls calls.now) (outcomes_seen d.outcomes.items)) }
     ensures ruled { IfOk result (λ d. (AllByRecursion Typed (plain_calls calls.now) → AllByRules (K.model bank) empty_book (plain_calls calls.now) (outcomes_seen d.outcomes.items))) }
 {
     promises();

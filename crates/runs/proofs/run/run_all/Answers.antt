@@ -49,9 +49,9 @@ returns g c =
       bank = l.invariant.2 ∙ bank;
       admitted = ap (λ p. all_admitted (asked (m c.args.bank)) p.entries) book ∙ run-admitted (asked (m c.args.bank)) empty_book calls refl;
       few = simp length-take (omega (arith, b.fits));
-      numbers =
+      numbers = λ numbered.
           subst (AllByNumbers calls) (sym outcomes)
-          (all_by_numbers (m c.args.bank) (g.met.K.Kind.keeps c.args.bank) (g.met.K.Kind.numbered c.args.bank) empty_book tt calls);
+          (all_by_numbers (m c.args.bank) (g.met.K.Kind.keeps c.args.bank) numbered empty_book tt calls);
       ruled = λ typed.
           subst (AllByRules (m c.args.bank) empty_book calls) (sym outcomes)
           (runs_by_rules (m c.args.bank) (g.met.K.Kind.keeps c.args.bank) calls typed);
