@@ -9,3 +9,4 @@ mod Hexes
 mod Typed
 mod Saying
 mod Pledged
+pub mod Admitted

@@ -64,6 +64,6 @@ lines_promise = record {
   said = calls_said;
   ruled = λ m keeps input. runs_by_rules m keeps _ (calls_typed (lines_of input));
   room = room_for_all;
-  alike = λ a b same input. ap (printed 1 (map deed_of (lines_of input))) (stations_promise.alike a b same (calls_in input) (calls_typed (lines_of input))).0;
+  alike = λ a b same input. ap (printed 1 (map deed_of (lines_of input))) (stations_promise.alike_for_callers a b same (calls_in input) (calls_typed (lines_of input))).0;
   stations = stations_promise;
 }

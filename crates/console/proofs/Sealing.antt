@@ -10,14 +10,15 @@ use Rattle.answer.specs.Rules.{then, need}
 use Rattle.code.specs.Model.{Asked, length_of, written}
 use Rattle.station.specs.declared.entry.Entry.{Entry}
 use Rattle.station.specs.Book.{PlainBook}
-use Rattle.station.specs.Frame.{coded, ccitt, pair_at, entry_at, differ, alike, sealed, opened, taken}
+use Rattle.station.specs.Fitting.{sealed_fitting}
+use Rattle.station.specs.Frame.{coded, ccitt, pair_at, entry_at, differ, alike, opened, taken}
 use Rattle.station.specs.Layout.{layout}
 use Rattle.station.specs.Items.{seen}
 use Rattle.console.specs.Decode.{decoded}
 use Rattle.console.specs.Deeds.{deed, deed_of, blank}
 use Rattle.console.specs.Grammar.{PlainLine, message, line_of}
 use Rattle.console.specs.Printed.{printed_bytes, wrote_frame}
-use Rattle.console.specs.Transcript.{printed_of, book_after_line}
+use Rattle.console.specs.Transcript.{printed_fitting, book_after_line}
 
 -- ---- a seal
 
@@ -33,13 +34,13 @@ long = length-replicate {A = ℕ} 4112 0
 -- What is printed of a message's line.
 pub sealing : (a : Asked) (n : ℕ) (b : PlainBook) (line d w v : List ℕ) (x : Result (List ℕ) Refusal)
     → ◌≡◌ {A = Result PlainLine Refusal} (Ok (message d)) (line_of line)
-    → v ≡ w ++ printed_bytes n x → x ≡ sealed a b (get_or (decoded d) 0 0) (drop 1 (decoded d)) 4112
-    → v ≡ w ++ printed_of a n b (deed_of line)
+    → v ≡ w ++ printed_bytes n x → x ≡ sealed_fitting a b (get_or (decoded d) 0 0) (drop 1 (decoded d)) 4112
+    → v ≡ w ++ printed_fitting a n b (deed_of line)
 sealing a n b line d w v x e p q =
-    let by : ℕ → Result (List ℕ) Refusal = sealed a b (get_or (decoded d) 0 0) (drop 1 (decoded d)) in
+    let by : ℕ → Result (List ℕ) Refusal = sealed_fitting a b (get_or (decoded d) 0 0) (drop 1 (decoded d)) in
     p
     ∙ ap (λ y. w ++ printed_bytes n y) (q ∙ sym (ap by long) ∙ sym (shown (by (length blank)) blank))
-    ∙ ap (λ l. w ++ printed_of a n b (deed l)) e
+    ∙ ap (λ l. w ++ printed_fitting a n b (deed l)) e
 
 -- The book stays.
 pub keeping : (a : Asked) (b c : PlainBook) (line d : List ℕ)

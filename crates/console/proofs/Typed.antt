@@ -44,12 +44,12 @@ module _ (s : List ℕ) (p : Bytes s) where
   pub seal_typed : Typed (seals_by s)
   seal_typed = (byte_at s 0 p, bytes_drop 1 s p, blank_bytes)
 
-abbrev TypedDeed : Deed → Type 0
+abbrev pub TypedDeed : Deed → Type 0
 TypedDeed nothing = Unit {0}
 TypedDeed (refused r) = Unit {0}
 TypedDeed (makes c) = Typed c
 
-deed_typed : (x : Result PlainLine Refusal) → TypedDeed (deed x)
+pub deed_typed : (x : Result PlainLine Refusal) → TypedDeed (deed x)
 deed_typed (Ok (entry d)) = enter_typed (decoded d) (decoded_bytes d)
 deed_typed (Ok (narrowing d)) = (byte_at (decoded d) 0 (decoded_bytes d), pair_fits (decoded d) (decoded_bytes d) 1)
 deed_typed (Ok (retirement d)) = byte_at (decoded d) 0 (decoded_bytes d)

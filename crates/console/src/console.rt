@@ -3,9 +3,10 @@ ghost use Rattle.std.specs.Prelude.{◌≡◌, ◌+◌, ◌≤◌, true, [], ◌
 ghost use Rattle.answer.specs.Refusal.{if_ok};
 ghost use Rattle.code.specs.Model.{asked};
 ghost use Rattle.station.specs.Book.{empty_book};
+ghost use Rattle.station.specs.Fitting.{Admitted};
 ghost use Rattle.station.specs.Items.{items};
 ghost use Rattle.console.specs.Deeds.{deed_of};
-ghost use Rattle.console.specs.Transcript.{printed_of, book_after_line};
+ghost use Rattle.console.specs.Transcript.{printed_of, printed_fitting, book_after_line};
 
 use crate::answers::{put_bytes, put_done, put_refusal};
 use crate::decode::LONGEST;
@@ -39,7 +40,7 @@ impl<K: Kind> Console<K> {
     // Obeys line `number`, and puts its printed line at the end of an output that has room for it.
     fn print_line(&mut self, number: u64, line: &[u8], out: &mut Vec<u8>)
         requires { vec_len out.old + 8300 ≤ vec_capacity out.old }
-        ensures printed { out.new.items ≡ out.old.items ++ printed_of (asked (K.model self.old.station.bank)) number (items self.old.station.book) (deed_of line.now) }
+        ensures printed { out.new.items ≡ out.old.items ++ printed_fitting (asked (K.model self.old.station.bank)) number (items self.old.station.book) (deed_of line.now) }
         ensures book { items self.new.station.book ≡ book_after_line (asked (K.model self.old.station.bank)) (items self.old.station.book) (deed_of line.now) }
         ensures bank { K.model self.new.station.bank ≡ K.model self.old.station.bank }
     {
@@ -85,7 +86,8 @@ impl<K: Kind> Console<K> {
     // Obeys line `number`: makes its call, and appends its printed line to the output. Nothing is printed of a remark or an empty line.
     // Room for the printed line, 8,300 bytes, is made first: without memory for it nothing is done. Where the output has that room already, no memory is needed.
     pub fn obey(&mut self, number: u64, line: &[u8], out: &mut Vec<u8>) -> Result<(), AllocError>
-        ensures printed { out.new.items ≡ out.old.items ++ if_ok result (printed_of (asked (K.model self.old.station.bank)) number (items self.old.station.book) (deed_of line.now)) [] }
+        ensures any { out.new.items ≡ out.old.items ++ if_ok result (printed_fitting (asked (K.model self.old.station.bank)) number (items self.old.station.book) (deed_of line.now)) [] }
+        ensures printed { Admitted (asked (K.model self.old.station.bank)) (items self.old.station.book) → out.new.items ≡ out.old.items ++ if_ok result (printed_of (asked (K.model self.old.station.bank)) number (items self.old.station.book) (deed_of line.now)) [] }
         ensures book { items self.new.station.book ≡ if_ok result (book_after_line (asked (K.model self.old.station.bank)) (items self.old.station.book) (deed_of line.now)) (items self.old.station.book) }
         ensures bank { K.model self.new.station.bank ≡ K.model self.old.station.bank }
         ensures needs { vec_len out.old + 8300 ≤ vec_capacity out.old → is_ok result ≡ true }

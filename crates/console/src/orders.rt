@@ -3,7 +3,8 @@ ghost use Rattle.std.specs.Prelude.{◌≡◌, ◌≤◌, length, drop, IfOk, sl
 ghost use Rattle.answer.specs.Refusal.{read};
 ghost use Rattle.code.specs.Model.{asked};
 ghost use Rattle.station.specs.Calls.{answer, step, done};
-ghost use Rattle.station.specs.Frame.{sealed, taken};
+ghost use Rattle.station.specs.Fitting.{sealed_fitting};
+ghost use Rattle.station.specs.Frame.{taken};
 ghost use Rattle.station.specs.Items.{items, seen};
 ghost use Rattle.console.specs.Decode.{decoded};
 ghost use Rattle.console.specs.Deeds.{enters_by, narrows_by, retires_by};
@@ -75,7 +76,7 @@ pub(crate) fn seal<'o, K: Kind>(
     output: &'o mut [u8; LONGEST],
 ) -> Result<&'o [u8], Fault>
     requires { (2 ≤ length digits.now) × (length digits.now ≤ 8224) }
-    ensures answer { seen result ≡ sealed (asked (K.model station.old.bank)) (items station.old.book) (slice_index (decoded digits.now) 0) (drop 1 (decoded digits.now)) 4112 }
+    ensures answer { seen result ≡ sealed_fitting (asked (K.model station.old.bank)) (items station.old.book) (slice_index (decoded digits.now) 0) (drop 1 (decoded digits.now)) 4112 }
     ensures sized { IfOk result (λ bytes. length bytes.now ≤ 4112) }
     ensures book { station.new.book ≡ station.old.book }
     ensures bank { K.model station.new.bank ≡ K.model station.old.bank }

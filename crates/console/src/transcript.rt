@@ -1,6 +1,7 @@
 // The transcript of a whole input.
 ghost use Rattle.std.specs.Prelude.{◌≡◌, true, [], ◌++◌, is_ok, IfOk, OnOk};
 ghost use Rattle.code.specs.Model.{asked};
+ghost use Rattle.station.specs.Fitting.{Admitted};
 ghost use Rattle.station.specs.Items.{items};
 ghost use Rattle.console.specs.Lines.{lines_of};
 ghost use Rattle.console.specs.Pledge.{LinesPromise};
@@ -17,6 +18,7 @@ fn obey_all<K: Kind>(
     input: &[u8],
     out: &mut Vec<u8>,
 ) -> Result<(), AllocError>
+    requires { Admitted (asked (K.model console.old.station.bank)) (items console.old.station.book) }
     ensures printed { OnOk result (out.new.items ≡ out.old.items ++ transcript_from (asked (K.model console.old.station.bank)) 1 (items console.old.station.book) (lines_of input.now)) }
     ensures needs { input.now ≡ [] → is_ok result ≡ true }
 {

@@ -3,6 +3,7 @@ ghost use Rattle.std.specs.Prelude.{◌≡◌, ℕ, List, length};
 ghost use Rattle.answer.specs.Refusal.{read};
 ghost use Rattle.code.specs.Model.{asked, length_of, written};
 ghost use Rattle.station.specs.Calls.{changing, step, trying};
+ghost use Rattle.station.specs.Fitting.{sealed_fitting};
 ghost use Rattle.station.specs.Frame.{sealed, taken};
 ghost use Rattle.station.specs.Items.{items, seen};
 ghost use Rattle.exports_station.specs.Forms.{book_with, call_of, change_of, done};
@@ -59,8 +60,8 @@ fn seal_again<K: Kind>(
     out: &mut [u8],
     more: u32,
 ) -> Result<usize, Fault>
-    ensures answer { read result ≡ length_of (sealed (asked (K.model station.old.bank)) (items station.old.book) number message.now (length out.old)) }
-    ensures written { out.new ≡ written (sealed (asked (K.model station.old.bank)) (items station.old.book) number message.now (length out.old)) out.old }
+    ensures answer { read result ≡ length_of (sealed_fitting (asked (K.model station.old.bank)) (items station.old.book) number message.now (length out.old)) }
+    ensures written { out.new ≡ written (sealed_fitting (asked (K.model station.old.bank)) (items station.old.book) number message.now (length out.old)) out.old }
 {
     let mut answer = station.seal(number, message, out);
     for _ in 0..more {

@@ -4,7 +4,7 @@ use Rattle.std.proofs.Common.{◌≡◌, ℕ, ◌-◌, ◌<◌, ◌≤◌, List,
 use Rattle.std.proofs.lemmas.Slice.{between_is}
 use Rattle.answer.specs.Refusal.{Refusal}
 use Rattle.code.specs.Model.{asked}
-use Rattle.station.specs.Frame.{sealed}
+use Rattle.station.specs.Fitting.{sealed_fitting}
 use Rattle.station.specs.Items.{items}
 use Rattle.station.proofs.Checked.{held_in_lem}
 use Rattle.console.specs.Decode.{decoded}
@@ -20,8 +20,8 @@ slice_bounds-result-end g c =
     let l : length out ≡ 4112 = c.told-output in
     let l2 : length c.seal.new.out ≡ length out = search rules in
     let h =
-    held_in_lem (sealed a b (get_or buffer 0 0) (take (n - 1) (drop 1 buffer)) (length out)) out c.seal.new.out c.in_ok-length.length
-    c.in_ok-length.ensures.answer c.seal.ensures.written l2 in
+    held_in_lem (sealed_fitting a b (get_or buffer 0 0) (take (n - 1) (drop 1 buffer)) (length out)) out c.seal.new.out c.in_ok-length.length
+    c.in_ok-length.ensures.any c.seal.ensures.left l2 in
     let short : c.in_ok-length.length ≤ 4112 = omega (arith, h.short, l) in
     search rules
 
@@ -40,14 +40,14 @@ returns g c =
     let l : length out ≡ 4112 = c.told-output in
     let l2 : length c.seal.new.out ≡ length out = search rules in
     let h =
-    held_in_lem (sealed a b (get_or buffer 0 0) (take (n - 1) (drop 1 buffer)) (length out)) out c.seal.new.out k
-    c.in_ok-length.ensures.answer c.seal.ensures.written l2 in
+    held_in_lem (sealed_fitting a b (get_or buffer 0 0) (take (n - 1) (drop 1 buffer)) (length out)) out c.seal.new.out k
+    c.in_ok-length.ensures.any c.seal.ensures.left l2 in
     let z : k - 0 ≡ k = omega arith in
     record {
       answer =
           ap {B = Result (List ℕ) Refusal} (λ t. Ok t) (ap (λ i. take i c.seal.new.out) z ∙ h.part) ∙ sym h.is
-          ∙ ap (sealed a b (get_or buffer 0 0) (take (n - 1) (drop 1 buffer))) l
-          ∙ ap₂ (λ (i : ℕ) (t : List ℕ). sealed a b i t 4112) first rest;
+          ∙ ap (sealed_fitting a b (get_or buffer 0 0) (take (n - 1) (drop 1 buffer))) l
+          ∙ ap₂ (λ (i : ℕ) (t : List ℕ). sealed_fitting a b i t 4112) first rest;
       sized = simp length-take (omega arith);
       book = c.seal.ensures.book;
       bank = c.seal.ensures.bank;

@@ -2,6 +2,7 @@
 -- Assumes nothing.
 use Rattle.std.proofs.Common.{◌≡◌, suc, ◌+◌, ◌≤◌, ◌++◌, length, vec_items}
 use Rattle.code.specs.Model.{asked}
+use Rattle.station.specs.Fitting.{Admitted}
 use Rattle.station.specs.Items.{items}
 use Rattle.console.specs.Lines.{lines_of}
 use Rattle.console.specs.Transcript.{transcript_from}
@@ -15,6 +16,7 @@ invariant-loop-rest g l =
     ++ transcript_from (asked (g.K.Kind.model l.initial.console.station.bank)) 1 (items l.initial.console.station.book) (lines_of l.initial.rest))
     × (g.K.Kind.model l.console.station.bank ≡ g.K.Kind.model l.initial.console.station.bank)
     × (l.number + length l.rest ≤ length l.initial.rest)
+    × Admitted (asked (g.K.Kind.model l.initial.console.station.bank)) (items l.console.station.book)
 
 abbrev pub decreases-loop-rest : goal.decreases-loop-rest
 decreases-loop-rest g l = length l.rest

@@ -3,7 +3,7 @@
 use Rattle.std.proofs.Common.{◌≡◌, length, sym, refl, ap, ◌∙◌, ap₂, arith}
 use Rattle.code.specs.Model.{Model, asked, length_of}
 use Rattle.station.specs.Book.{PlainBook}
-use Rattle.station.specs.Frame.{sealed}
+use Rattle.station.specs.Fitting.{sealed_fitting}
 use Rattle.station.specs.Items.{items}
 use Rattle.exports_station.proofs.Again.{wrote_again}
 use Rattle.exports_station.proofs.stationing.seal_again.Goals as goal
@@ -22,13 +22,13 @@ loop-preserved g c =
     let message = c.args.message.now in
     let room : length l.out ≡ length c.args.out.now = omega arith in
     let x =
-    ap₂ (λ (k : Model) (b : PlainBook). sealed (asked k) b n message (length l.out)) (l.invariant.0 ∙ first.bank) (ap items (l.invariant.1 ∙ first.book))
-    ∙ ap (sealed (asked (m s.bank)) (items s.book) n message) room in (
+    ap₂ (λ (k : Model) (b : PlainBook). sealed_fitting (asked k) b n message (length l.out)) (l.invariant.0 ∙ first.bank) (ap items (l.invariant.1 ∙ first.book))
+    ∙ ap (sealed_fitting (asked (m s.bank)) (items s.book) n message) room in (
       again.bank ∙ l.invariant.0,
       again.book ∙ l.invariant.1,
-      wrote_again _ _ c.args.out.now c.seal-answer.new.out l.out c.seal-answer-in-loop.new.out x first.written l.invariant.2 again.written,
-      again.answer ∙ ap length_of x ∙ sym first.answer,
+      wrote_again _ _ c.args.out.now c.seal-answer.new.out l.out c.seal-answer-in-loop.new.out x first.left l.invariant.2 again.left,
+      again.any ∙ ap length_of x ∙ sym first.any,
     )
 
 pub returns : goal.returns
-returns g c = record { answer = c.loop.invariant.3 ∙ c.seal-answer.ensures.answer; written = c.loop.invariant.2 ∙ c.seal-answer.ensures.written }
+returns g c = record { answer = c.loop.invariant.3 ∙ c.seal-answer.ensures.any; written = c.loop.invariant.2 ∙ c.seal-answer.ensures.left }
