@@ -68,8 +68,8 @@ far_of d reach k =
 check_lt : (d : Description) (message : List ℕ) → Fit d → remainder d.degree d.low message < 2 ^ (8 * check_bytes d.degree)
 check_lt d message f = crc-lt d.degree d.low (check_bytes d.degree) f.small f.degree.bits message
 
-word_of_lem : (carries : ℕ → ℕ → Bool) (d : Description) (w : List ℕ) → Fit d → Word (crc_model carries) d w → Crc d.degree d.low w
-word_of_lem carries d w f k =
+word_of : (carries : ℕ → ℕ → Bool) (d : Description) (w : List ℕ) → Fit d → Word (crc_model carries) d w → Crc d.degree d.low w
+word_of carries d w f k =
     subst (Crc d.degree d.low) (sym k.is_word)
     (crc-word d.degree d.low (check_bytes d.degree) f.small f.degree.bits k.message)
 
@@ -116,5 +116,5 @@ crc-keeps carries = record {
   apart = λ d reach a u v bu bv l short wu wv.
       let f = fit carries d reach a in
       notices d reach f (far_of d reach (rules carries d reach a).1) (even_terms d) refl u v bu bv l short
-      (word_of_lem carries d u f wu) (word_of_lem carries d v f wv);
+      (word_of carries d u f wu) (word_of carries d v f wv);
 }

@@ -12,7 +12,6 @@ proper_low_lem h low e =
 pub lawful_reach_lem : (tuple check reach : ℕ) → lawful_reach tuple check reach ≡ true
     → (reach % tuple ≡ 0) × (check + tuple ≤ reach) × (reach ≤ 4096)
 lawful_reach_lem tuple check reach e =
-    let p = and_parts (leb 1 tuple && eqb (reach % tuple) 0 && leb (check + tuple) reach) (leb reach 4096) e in
-    let q = and_parts (leb 1 tuple && eqb (reach % tuple) 0) (leb (check + tuple) reach) p.0 in
-    let r = and_parts (leb 1 tuple) (eqb (reach % tuple) 0) q.0 in
-    (eqb-true (reach % tuple) 0 r.1, leb-true (check + tuple) reach q.1, leb-true reach 4096 p.1)
+    let p = and_parts (eqb (reach % tuple) 0 && leb (check + tuple) reach) (leb reach 4096) e in
+    let q = and_parts (eqb (reach % tuple) 0) (leb (check + tuple) reach) p.0 in
+    (eqb-true (reach % tuple) 0 q.0, leb-true (check + tuple) reach q.1, leb-true reach 4096 p.1)

@@ -3,7 +3,9 @@ pub mod Asking
 pub mod CrcLaws
 pub mod ParityLaws
 pub mod Texts
+pub mod Samples
 pub mod Comparing
+pub mod CallersCompared
 pub mod FieldRules
 pub mod WeightedFit
 pub mod WeightedKeeps

@@ -2,16 +2,17 @@
 -- Assumes nothing.
 use Rattle.std.proofs.Common.{◌≡◌, ℕ, suc, ◌+◌, ◌-◌, ◌*◌, ◌%◌, ◌^◌, ◌<◌, ◌≤◌, Bool, true, eqb, List, [], ◌∷◌, ◌++◌, sym, subst, inl, inr, arith}
 use native.Mathlib.Nat.{mod-one}
+use lib.Count.{ones}
 use Rattle.std.proofs.lemmas.Bool.{or_cases, eqb-true}
 use Rattle.answer.specs.declared.fault.Layer.TheVariants.{Engine}
 use Rattle.answer.specs.Refusal.{refusal}
 use Rattle.answer.specs.Rules.{rule}
 use Rattle.answer.proofs.Ruled.{Kept, kept, kept_append}
-use Rattle.poly.specs.Poly.{terms, remainder}
+use Rattle.poly.specs.Poly.{terms, polynomial, remainder}
 use Rattle.poly.specs.Period.{NoReturn}
 use Rattle.words.specs.Words.{CrcParity}
 use Rattle.words.proofs.DigitBytes.{length_digits, bytes_digits}
-use Rattle.words.proofs.Checks.{parity_lt, parity_word}
+use Rattle.words.proofs.Checks.{even-bit, parity_lt, parity_word}
 use Rattle.words.proofs.Words.{crc_parity_notices}
 use Rattle.code.specs.declared.description.Description.{Description}
 use Rattle.code.specs.Model.{Admits, Keeps, Word, described_rules}
@@ -61,8 +62,13 @@ checked d message = remainder d.degree d.low message * 2 + even_bit d message
 pub check_lt : (d : Description) (message : List ℕ) → Fit d → checked d message < 2 ^ (8 * check_bytes d.degree)
 check_lt d message f = parity_lt d.degree d.low (check_bytes d.degree) f.small f.degree.bits message
 
-word_of_lem : (carries : ℕ → ℕ → Bool) (d : Description) (w : List ℕ) → Fit d → Word (parity_model carries) d w → CrcParity d.degree d.low w
-word_of_lem carries d w f k =
+-- the ones of the message and of the remainder
+pub even_bit_lem : (d : Description) (message : List ℕ)
+    → even_bit d message ≡ (ones (polynomial message) + ones (remainder d.degree d.low message)) % 2
+even_bit_lem d message = even-bit d.degree d.low message
+
+word_of : (carries : ℕ → ℕ → Bool) (d : Description) (w : List ℕ) → Fit d → Word (parity_model carries) d w → CrcParity d.degree d.low w
+word_of carries d w f k =
     subst (CrcParity d.degree d.low) (sym k.is_word)
     (parity_word d.degree d.low (check_bytes d.degree) f.small f.degree.bits k.message)
 
@@ -104,5 +110,5 @@ parity_keeps carries = record {
       let f = fit carries d reach a in
       crc_parity_notices d.degree d.low reach f.small f.constant
       (less d.degree d.low (8 * reach) (far_of d reach (rules carries d reach a).1)) f.uneven u v bu bv l short
-      (word_of_lem carries d u f wu) (word_of_lem carries d v f wv);
+      (word_of carries d u f wu) (word_of carries d v f wv);
 }

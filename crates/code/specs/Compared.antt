@@ -1,9 +1,9 @@
 -- How kinds compare by their answers: banks of kinds that match or mean the same, one kind over two engines,
 -- and what the two relations are.
 -- Assumes nothing.
-use Rattle.std.specs.Prelude.{◌≡◌, ℕ, ◌%◌, ◌^◌, ◌<◌, ◌≤◌, Bool, cond, List}
+use Rattle.std.specs.Prelude.{◌≡◌, ℕ, Bool, cond, List}
 use Rattle.code.specs.declared.description.Description.{Description}
-use Rattle.code.specs.Model.{Model, asked, MatchesForCallers, MeansTheSameForCallers}
+use Rattle.code.specs.Model.{Model, asked, Matches, MeansTheSame}
 use Rattle.code.specs.Bank.{joined}
 use Rattle.code.specs.CrcModel.{crc_model}
 use Rattle.code.specs.ParityModel.{parity_model}
@@ -24,66 +24,62 @@ abbrev pub JoinedAnswers : Type 0
 JoinedAnswers = (l r : Model) → AnswersAsOne l r
 
 -- Banks of matching kinds match.
-abbrev pub JoinedMatchesForCallers : Type 0
-JoinedMatchesForCallers = (a b c d : Model) → MatchesForCallers a c → MatchesForCallers b d → MatchesForCallers (joined a b) (joined c d)
+abbrev pub JoinedMatches : Type 0
+JoinedMatches = (a b c d : Model) → Matches a c → Matches b d → Matches (joined a b) (joined c d)
 
 -- Banks of kinds that mean the same mean the same.
-abbrev pub JoinedMeansTheSameForCallers : Type 0
-JoinedMeansTheSameForCallers = (a b c d : Model) → MeansTheSameForCallers a c → MeansTheSameForCallers b d → MeansTheSameForCallers (joined a b) (joined c d)
+abbrev pub JoinedMeansTheSame : Type 0
+JoinedMeansTheSame = (a b c d : Model) → MeansTheSame a c → MeansTheSame b d → MeansTheSame (joined a b) (joined c d)
 
 -- ---- kinds over engines
 
 -- A kind matches itself over any two engines, whatever these carry.
-abbrev pub MatchesOverEnginesForCallers : ((ℕ → ℕ → Bool) → Model) → Type 0
-MatchesOverEnginesForCallers build = (p q : ℕ → ℕ → Bool) → MatchesForCallers (build p) (build q)
-
--- Engines carry the same generators: of those with a degree from 8 to 32, a low part below the degree and a constant term.
-abbrev pub CarryTheSame : (ℕ → ℕ → Bool) → (ℕ → ℕ → Bool) → Type 0
-CarryTheSame p q = (h low : ℕ) → 8 ≤ h → h ≤ 32 → low < 2 ^ h → low % 2 ≡ 1 → p h low ≡ q h low
+abbrev pub MatchesOverEngines : ((ℕ → ℕ → Bool) → Model) → Type 0
+MatchesOverEngines build = (p q : ℕ → ℕ → Bool) → Matches (build p) (build q)
 
 -- A kind means the same over engines that carry the same generators.
-abbrev pub SameOverEnginesForCallers : ((ℕ → ℕ → Bool) → Model) → Type 0
-SameOverEnginesForCallers build = (p q : ℕ → ℕ → Bool) → CarryTheSame p q → MeansTheSameForCallers (build p) (build q)
+abbrev pub SameOverEngines : ((ℕ → ℕ → Bool) → Model) → Type 0
+SameOverEngines build = (p q : ℕ → ℕ → Bool) → ((h low : ℕ) → p h low ≡ q h low) → MeansTheSame (build p) (build q)
 
-abbrev pub CrcMatchesForCallers : Type 0
-CrcMatchesForCallers = MatchesOverEnginesForCallers crc_model
+abbrev pub CrcMatches : Type 0
+CrcMatches = MatchesOverEngines crc_model
 
-abbrev pub CrcMeansTheSameForCallers : Type 0
-CrcMeansTheSameForCallers = SameOverEnginesForCallers crc_model
+abbrev pub CrcMeansTheSame : Type 0
+CrcMeansTheSame = SameOverEngines crc_model
 
-abbrev pub ParityMatchesForCallers : Type 0
-ParityMatchesForCallers = MatchesOverEnginesForCallers parity_model
+abbrev pub ParityMatches : Type 0
+ParityMatches = MatchesOverEngines parity_model
 
-abbrev pub ParityMeansTheSameForCallers : Type 0
-ParityMeansTheSameForCallers = SameOverEnginesForCallers parity_model
+abbrev pub ParityMeansTheSame : Type 0
+ParityMeansTheSame = SameOverEngines parity_model
 
 -- ---- the two relations
 
 -- Kinds that mean the same match.
-abbrev pub SameMatchesForCallers : Type 0
-SameMatchesForCallers = (a b : Model) → MeansTheSameForCallers a b → MatchesForCallers a b
+abbrev pub SameMatches : Type 0
+SameMatches = (a b : Model) → MeansTheSame a b → Matches a b
 
 -- To match is reflexive and symmetric ..
-abbrev pub MatchesReflexiveForCallers : Type 0
-MatchesReflexiveForCallers = (a : Model) → MatchesForCallers a a
+abbrev pub MatchesReflexive : Type 0
+MatchesReflexive = (a : Model) → Matches a a
 
-abbrev pub MatchesSymmetricForCallers : Type 0
-MatchesSymmetricForCallers = (a b : Model) → MatchesForCallers a b → MatchesForCallers b a
+abbrev pub MatchesSymmetric : Type 0
+MatchesSymmetric = (a b : Model) → Matches a b → Matches b a
 
 -- .. and not transitive: a kind that refuses every description matches all that serve the same numbers.
-abbrev pub MatchesNotTransitiveForCallers : Type 0
-MatchesNotTransitiveForCallers = ¬ ((a b c : Model) → MatchesForCallers a b → MatchesForCallers b c → MatchesForCallers a c)
+abbrev pub MatchesNotTransitive : Type 0
+MatchesNotTransitive = ¬ ((a b c : Model) → Matches a b → Matches b c → Matches a c)
 
 -- What matches a kind matches each that means the same.
-abbrev pub MatchesSameForCallers : Type 0
-MatchesSameForCallers = (a b c : Model) → MatchesForCallers a b → MeansTheSameForCallers b c → MatchesForCallers a c
+abbrev pub MatchesSame : Type 0
+MatchesSame = (a b c : Model) → Matches a b → MeansTheSame b c → Matches a c
 
 -- To mean the same is an equivalence.
-abbrev pub SameReflexiveForCallers : Type 0
-SameReflexiveForCallers = (a : Model) → MeansTheSameForCallers a a
+abbrev pub SameReflexive : Type 0
+SameReflexive = (a : Model) → MeansTheSame a a
 
-abbrev pub SameSymmetricForCallers : Type 0
-SameSymmetricForCallers = (a b : Model) → MeansTheSameForCallers a b → MeansTheSameForCallers b a
+abbrev pub SameSymmetric : Type 0
+SameSymmetric = (a b : Model) → MeansTheSame a b → MeansTheSame b a
 
-abbrev pub SameTransitiveForCallers : Type 0
-SameTransitiveForCallers = (a b c : Model) → MeansTheSameForCallers a b → MeansTheSameForCallers b c → MeansTheSameForCallers a c
+abbrev pub SameTransitive : Type 0
+SameTransitive = (a b c : Model) → MeansTheSame a b → MeansTheSame b c → MeansTheSame a c

@@ -16,6 +16,6 @@ at_least None n = true
 abbrev pub period_at_least : ℕ → ℕ → ℕ → Bool
 period_at_least h low n = at_least (first_return h low 32768) n
 
--- A lawful reach: a multiple of the tuple, which has some bytes, room for the check and one tuple, at most 4,096 bytes.
+-- A lawful reach: a multiple of the tuple, room for the check and one tuple, at most 4,096 bytes.
 abbrev pub lawful_reach : ℕ → ℕ → ℕ → Bool
-lawful_reach tuple check reach = nat_le 1 tuple && reach % tuple == 0 && nat_le (check + tuple) reach && nat_le reach 4096
+lawful_reach tuple check reach = reach % tuple == 0 && nat_le (check + tuple) reach && nat_le reach 4096

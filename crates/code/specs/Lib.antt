@@ -5,6 +5,7 @@ pub mod CrcModel
 pub mod ParityModel
 pub mod Catalogue
 pub mod Compared
+pub mod ForCallers
 pub mod WeightedModel
 pub mod Answered
 pub mod Samples

@@ -1,7 +1,8 @@
--- What a kind means, what it answers, the laws of every kind, and when two kinds match or mean the same.
+-- What a kind means, what it answers, the laws of every kind, and when two kinds match or mean the same, at all numbers or at all that a
+-- caller can pass.
 -- Assumes nothing.
 use Rattle.std.specs.Prelude.{◌≡◌, ℕ, ◌+◌, ◌%◌, ◌^◌, ◌<◌, ◌≤◌, Bool, ◌&&◌, List, [], ◌∷◌, ◌++◌, length, drop, Ok, Err, Result, ◌==◌, nat_le, nat_lt}
-use Rattle.std.specs.List.{AllByRecursion as All}
+use Rattle.std.specs.List.{AllByRecursion}
 use Rattle.answer.specs.declared.fault.Layer.TheVariants.{Kind, Frame}
 use Rattle.answer.specs.Refusal.{Refusal, refusal}
 use Rattle.answer.specs.Rules.{Rule, rule, by_rules}
@@ -108,10 +109,26 @@ Between least most r = (least ≤ r.otherwise.number) × (r.otherwise.number ≤
 
 -- A kind refuses by its own numbers alone: a description by 12 to 15, a reach by 16 or 17. (11, 31 and 33 are those of `asked`.)
 pub record Numbered (m : Model) : Type 0 where
-  pub fits : (d : Description) → All (Between 12 15) (m.fits d)
-  pub reaches : (d : Description) (reach : ℕ) → All (Between 16 17) (m.reaches d reach)
+  pub fits : (d : Description) → AllByRecursion (Between 12 15) (m.fits d)
+  pub reaches : (d : Description) (reach : ℕ) → AllByRecursion (Between 16 17) (m.reaches d reach)
 
--- ---- kinds compared by their answers, at all that a caller can pass
+-- ---- kinds compared by their answers
+
+-- Two kinds match: they serve the same numbers, and where neither refuses they give equal sheets and checks.
+pub record Matches (a b : Model) : Type 0 where
+  pub serve : (k : ℕ) → a.serves k ≡ b.serves k
+  pub sheets : (d : Description) (s t : Sheet) → (asked a).sheet d ≡ Ok s → (asked b).sheet d ≡ Ok t → s ≡ t
+  pub checks : (d : Description) (message : List ℕ) (room : ℕ) (x y : List ℕ) → Bytes message
+      → (asked a).check d message room ≡ Ok x → (asked b).check d message room ≡ Ok y → x ≡ y
+
+-- Two kinds mean the same: equal answers to everything.
+pub record MeansTheSame (a b : Model) : Type 0 where
+  pub serve : (k : ℕ) → a.serves k ≡ b.serves k
+  pub admissions : (d : Description) (reach : ℕ) → (asked a).admission d reach ≡ (asked b).admission d reach
+  pub sheets : (d : Description) → (asked a).sheet d ≡ (asked b).sheet d
+  pub checks : (d : Description) (message : List ℕ) (room : ℕ) → (asked a).check d message room ≡ (asked b).check d message room
+
+-- ---- the same, at all that a caller can pass
 
 -- A description whose fields fit their types.
 pub record Fits (d : Description) : Type 0 where
@@ -122,14 +139,14 @@ pub record Fits (d : Description) : Type 0 where
   pub low2 : d.low2 < 2 ^ 16
   pub tuple : d.tuple < 2 ^ 8
 
--- Two kinds match: they serve the same numbers, and where neither refuses they give equal sheets and checks.
+-- Two kinds match for callers: at all that a caller can pass they serve the same numbers, and where neither refuses they give equal sheets and checks.
 pub record MatchesForCallers (a b : Model) : Type 0 where
   pub serve : (k : ℕ) → k < 2 ^ 8 → a.serves k ≡ b.serves k
   pub sheets : (d : Description) → Fits d → (s t : Sheet) → (asked a).sheet d ≡ Ok s → (asked b).sheet d ≡ Ok t → s ≡ t
   pub checks : (d : Description) → Fits d → (message : List ℕ) → Bytes message → (room : ℕ) (x y : List ℕ)
       → (asked a).check d message room ≡ Ok x → (asked b).check d message room ≡ Ok y → x ≡ y
 
--- Two kinds mean the same: equal answers to everything.
+-- Two kinds mean the same for callers: equal answers to all that a caller can pass.
 pub record MeansTheSameForCallers (a b : Model) : Type 0 where
   pub serve : (k : ℕ) → k < 2 ^ 8 → a.serves k ≡ b.serves k
   pub admissions : (d : Description) → Fits d → (reach : ℕ) → reach < 2 ^ 16 → (asked a).admission d reach ≡ (asked b).admission d reach

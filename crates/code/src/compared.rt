@@ -1,6 +1,6 @@
 // How kinds compare by their answers, as the contract of a function.
 ghost use Rattle.std.specs.Prelude.{◌≡◌};
-ghost use Rattle.code.specs.Compared.{JoinedAnswers, JoinedMatchesForCallers, JoinedMeansTheSameForCallers, CrcMatchesForCallers, CrcMeansTheSameForCallers, ParityMatchesForCallers, ParityMeansTheSameForCallers};
+ghost use Rattle.code.specs.Compared.{JoinedAnswers, JoinedMatches, JoinedMeansTheSame, CrcMatches, CrcMeansTheSame, ParityMatches, ParityMeansTheSame};
 
 // A bank answers as its left kind where that serves the number, and as its right one elsewhere; so banks of matching kinds match,
 // and banks of kinds that mean the same mean the same. A kind matches itself over any two engines, and means the same over two that
@@ -8,12 +8,12 @@ ghost use Rattle.code.specs.Compared.{JoinedAnswers, JoinedMatchesForCallers, Jo
 pub fn kinds_compare() -> u8
     ensures answer { result ≡ 0 }
     ensures bank { JoinedAnswers }
-    ensures matching { JoinedMatchesForCallers }
-    ensures same { JoinedMeansTheSameForCallers }
-    ensures crc { CrcMatchesForCallers }
-    ensures crc_same { CrcMeansTheSameForCallers }
-    ensures parity { ParityMatchesForCallers }
-    ensures parity_same { ParityMeansTheSameForCallers }
+    ensures matching { JoinedMatches }
+    ensures same { JoinedMeansTheSame }
+    ensures crc { CrcMatches }
+    ensures crc_same { CrcMeansTheSame }
+    ensures parity { ParityMatches }
+    ensures parity_same { ParityMeansTheSame }
 {
     comparison();
     0
@@ -22,10 +22,10 @@ pub fn kinds_compare() -> u8
 // The theorems themselves.
 fn comparison()
     ensures bank { JoinedAnswers }
-    ensures matching { JoinedMatchesForCallers }
-    ensures same { JoinedMeansTheSameForCallers }
-    ensures crc { CrcMatchesForCallers }
-    ensures crc_same { CrcMeansTheSameForCallers }
-    ensures parity { ParityMatchesForCallers }
-    ensures parity_same { ParityMeansTheSameForCallers }
+    ensures matching { JoinedMatches }
+    ensures same { JoinedMeansTheSame }
+    ensures crc { CrcMatches }
+    ensures crc_same { CrcMeansTheSame }
+    ensures parity { ParityMatches }
+    ensures parity_same { ParityMeansTheSame }
 {}

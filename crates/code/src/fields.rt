@@ -1,5 +1,5 @@
 // What kinds ask of low parts, periods and reaches, and of a message and the room for its check.
-ghost use Rattle.std.specs.Prelude.{◌≡◌, ◌^◌, [], ◌∷◌, length, nat_le, nat_lt};
+ghost use Rattle.std.specs.Prelude.{◌≡◌, ◌^◌, ◌&&◌, [], ◌∷◌, length, nat_le, nat_lt};
 ghost use Rattle.answer.specs.declared.fault.Layer.TheVariants.{Frame};
 ghost use Rattle.answer.specs.Refusal.{read, refusal};
 ghost use Rattle.answer.specs.Rules.{rule, by_rules};
@@ -35,9 +35,9 @@ pub fn proper_low(degree: u8, low: u32) -> bool
     short(degree, low) && low % 2 == 1
 }
 
-// Whether a reach is whole tuples of some bytes, has room for the check and one tuple, and is at most 4,096.
+// Whether a tuple has some bytes, and a reach is whole tuples, has room for the check and one tuple, and is at most 4,096.
 pub fn lawful_reach(tuple: u16, check: u16, reach: u16) -> bool
-    ensures { result ≡ lawful_reach tuple check reach }
+    ensures { result ≡ (nat_le 1 tuple && lawful_reach tuple check reach) }
 {
     tuple != 0
         && reach % tuple == 0

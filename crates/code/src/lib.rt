@@ -8,5 +8,6 @@ pub mod catalogue;
 pub mod compared;
 pub mod description;
 pub mod fields;
+pub mod for_callers;
 pub mod kind;
 pub mod relations;

@@ -5,7 +5,7 @@ use Rattle.std.proofs.Common.{◌≡◌, ℕ, suc, ◌+◌, ◌*◌, ◌/◌, �
 use lib.Arith.{digits_lt, digits_div, digits_mod}
 use lib.ListN.{length-map}
 use lib.Bits.{bit_xor, xor_zero_r, xor_lt, xor_shifted}
-use Rattle.std.specs.List.{AllByRecursion as All}
+use Rattle.std.specs.List.{AllByRecursion}
 use Rattle.poly.specs.Poly.{string}
 use Rattle.poly.proofs.Product.{xor-shl, xor_swap}
 use Rattle.poly.proofs.Strings.{string-append}
@@ -15,17 +15,17 @@ use Rattle.poly.proofs.Strings.{string-append}
 pub pow-digits : (w n : ℕ) → 2 ^ (w * suc n) ≡ 2 ^ w * 2 ^ (w * n)
 pow-digits w n = ap (λ x. 2 ^ x) (mul-suc w n ∙ add_comm (w * n) w) ∙ pow-add 2 w (w * n)
 
-pub string-lt : (w : ℕ) (s : List ℕ) → All (λ d. d < 2 ^ w) s → string w s < 2 ^ (w * length s)
+pub string-lt : (w : ℕ) (s : List ℕ) → AllByRecursion (λ d. d < 2 ^ w) s → string w s < 2 ^ (w * length s)
 string-lt w [] a = pow_pos (w * 0)
 string-lt w (d ∷ s) (l, a) =
     let below = string-lt w s a in
     rw (pow-digits w (length s), xor_shifted d (w * length s) (string w s) below) (digits_lt l below)
 
-pub string-cons : (w d : ℕ) (s : List ℕ) → All (λ d. d < 2 ^ w) s → string w (d ∷ s) ≡ d * 2 ^ (w * length s) + string w s
+pub string-cons : (w d : ℕ) (s : List ℕ) → AllByRecursion (λ d. d < 2 ^ w) s → string w (d ∷ s) ≡ d * 2 ^ (w * length s) + string w s
 string-cons w d s a = xor_shifted d (w * length s) (string w s) (string-lt w s a)
 
 -- strings of one length are the same if their numbers are
-pub string_inj : (w : ℕ) (s t : List ℕ) → All (λ d. d < 2 ^ w) s → All (λ d. d < 2 ^ w) t → length s ≡ length t
+pub string_inj : (w : ℕ) (s t : List ℕ) → AllByRecursion (λ d. d < 2 ^ w) s → AllByRecursion (λ d. d < 2 ^ w) t → length s ≡ length t
     → string w s ≡ string w t → s ≡ t
 string_inj w [] [] a b l e = refl
 string_inj w [] (y ∷ t) a b l e = absurd (omega arith)
@@ -61,7 +61,7 @@ length_added [] t l = refl
 length_added (x ∷ s) [] l = absurd (omega arith)
 length_added (x ∷ s) (y ∷ t) l = ap suc (length_added s t (omega arith))
 
-pub all_added : (w : ℕ) (s t : List ℕ) → All (λ d. d < 2 ^ w) s → All (λ d. d < 2 ^ w) t → All (λ d. d < 2 ^ w) (added s t)
+pub all_added : (w : ℕ) (s t : List ℕ) → AllByRecursion (λ d. d < 2 ^ w) s → AllByRecursion (λ d. d < 2 ^ w) t → AllByRecursion (λ d. d < 2 ^ w) (added s t)
 all_added w [] t a b = tt
 all_added w (x ∷ s) [] a b = tt
 all_added w (x ∷ s) (y ∷ t) (xa, a) (yb, b) = (xor_lt w x y xa yb, all_added w s t a b)
@@ -83,14 +83,14 @@ abbrev pub chained : List (List ℕ) → List ℕ
 chained [] = []
 chained (g ∷ gs) = g ++ chained gs
 
-pub length_chained : (n : ℕ) (gs : List (List ℕ)) → All (λ g. length g ≡ n) gs → length (chained gs) ≡ n * length gs
+pub length_chained : (n : ℕ) (gs : List (List ℕ)) → AllByRecursion (λ g. length g ≡ n) gs → length (chained gs) ≡ n * length gs
 length_chained n [] a = sym (mul-zero n)
 length_chained n (g ∷ gs) (e, a) =
     length-append g (chained gs) ∙ ap₂ (λ x y. x + y) e (length_chained n gs a)
     ∙ add_comm n (n * length gs) ∙ sym (mul-suc n (length gs))
 
 -- strings of n digits each are digits of n times the width
-pub string_chained : (w n : ℕ) (gs : List (List ℕ)) → All (λ g. length g ≡ n) gs
+pub string_chained : (w n : ℕ) (gs : List (List ℕ)) → AllByRecursion (λ g. length g ≡ n) gs
     → string w (chained gs) ≡ string (w * n) (map (string w) gs)
 string_chained w n [] a = refl
 string_chained w n (g ∷ gs) (e, a) =

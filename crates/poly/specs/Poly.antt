@@ -4,7 +4,7 @@
 use Rattle.std.specs.Prelude.{◌≡◌, ℕ, zero, suc, ◌+◌, ◌*◌, ◌/◌, ◌%◌, ◌^◌, ◌<◌, ◌≤◌, List, [], ◌∷◌, length, bit_xor, count_ones}
 
 -- Horner's scheme over the bits of p, highest first: f takes what the bits above gave, and the next bit.
--- The first number only bounds the recursion; `byBits` gives it p, which is at least as many as the bits of p.
+-- The first number only bounds the recursion; `by_bits` gives it p, which is at least as many as the bits of p.
 unfoldable pub horner : (ℕ → ℕ → ℕ) → ℕ → ℕ → ℕ
 horner f zero p = zero
 horner f (suc n) zero = zero

@@ -1,7 +1,7 @@
 -- Groups of s bytes: put together again they are the bytes, and one group more is the next s bytes.
 -- Assumes nothing.
 use Rattle.std.proofs.Common.{◌≡◌, ℕ, zero, suc, ◌+◌, ◌*◌, ◌≤◌, List, [], ◌∷◌, ◌++◌, length, take, drop, sym, ap, ◌∙◌, append_assoc, append-nil, add_comm, mul-zero, mul-suc, arith, length-drop, take-append-drop, length-take}
-use Rattle.std.specs.List.{AllByRecursion as All}
+use Rattle.std.specs.List.{AllByRecursion}
 use Rattle.std.proofs.lemmas.List.{drop-drop, nil_from_length}
 use Rattle.std.proofs.ByRecursion.{All-take, All-drop}
 use Rattle.poly.proofs.Digits.{chained}
@@ -11,7 +11,7 @@ use Rattle.words.specs.Tuples.{groups}
 one_more : (s n : ℕ) → s * suc n ≡ s + s * n
 one_more s n = mul-suc s n ∙ add_comm (s * n) s
 
-pub groups_lengths : (n s : ℕ) (xs : List ℕ) → s * n ≤ length xs → All (λ g. length g ≡ s) (groups n s xs)
+pub groups_lengths : (n s : ℕ) (xs : List ℕ) → s * n ≤ length xs → AllByRecursion (λ g. length g ≡ s) (groups n s xs)
 groups_lengths zero s xs l = tt
 groups_lengths (suc n) s xs l =
     let e = one_more s n in (
@@ -19,7 +19,7 @@ groups_lengths (suc n) s xs l =
       groups_lengths n s (drop s xs) (omega (arith, length-drop s xs)),
     )
 
-pub groups_bytes : (n s : ℕ) (xs : List ℕ) → Bytes xs → All Bytes (groups n s xs)
+pub groups_bytes : (n s : ℕ) (xs : List ℕ) → Bytes xs → AllByRecursion Bytes (groups n s xs)
 groups_bytes zero s xs b = tt
 groups_bytes (suc n) s xs b = (All-take (λ x. _) s xs b, groups_bytes n s (drop s xs) (All-drop (λ x. _) s xs b))
 

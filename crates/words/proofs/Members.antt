@@ -5,7 +5,7 @@ use native.Mathlib.Nat.{eq_of_mul-eq-mul_left}
 use lib.Arith.{digits_div, digits_mod}
 use lib.ListN.{length-map}
 use lib.Bits.{bit_xor, xor_shr, xor_shifted}
-use Rattle.std.specs.List.{AllByRecursion as All}
+use Rattle.std.specs.List.{AllByRecursion}
 use Rattle.poly.specs.Poly.{Divides, generator, rem, string}
 use Rattle.poly.proofs.Division.{rem_lt}
 use Rattle.poly.proofs.Strings.{string-append}
@@ -78,8 +78,8 @@ weighted-sums h low m low1 qs p r small small1 = (
 
 -- A word of bytes is one exactly by its tuples of s bytes: gs are all but the last, and b is the last.
 module _ (s low m low1 : ℕ) (s1 : 1 ≤ s) (mh : m ≤ 8 * s) (gs : List (List ℕ)) (b : List ℕ)
-    (lengths : All (λ g. length g ≡ s) gs) (bytes : All Bytes gs) (length-b : length b ≡ s) (bytes-b : Bytes b) where
-  tuples_fit : (gs : List (List ℕ)) → All (λ g. length g ≡ s) gs → All Bytes gs → All (λ q. q < 2 ^ (8 * s)) (map (string 8) gs)
+    (lengths : AllByRecursion (λ g. length g ≡ s) gs) (bytes : AllByRecursion Bytes gs) (length-b : length b ≡ s) (bytes-b : Bytes b) where
+  tuples_fit : (gs : List (List ℕ)) → AllByRecursion (λ g. length g ≡ s) gs → AllByRecursion Bytes gs → AllByRecursion (λ q. q < 2 ^ (8 * s)) (map (string 8) gs)
   tuples_fit [] l a = tt
   tuples_fit (g ∷ gs) (e, l) (x, a) = (subst (λ n. string 8 g < 2 ^ (8 * n)) e (string-lt 8 g x), tuples_fit gs l a)
 
@@ -94,7 +94,7 @@ module _ (s low m low1 : ℕ) (s1 : 1 ≤ s) (mh : m ≤ 8 * s) (gs : List (List
       ∙ ap₂ (λ x n. bit_xor (x * 2 ^ (8 * n)) (string 8 b)) (string_chained 8 s gs lengths) length-b
       ∙ sym (string_push (8 * s) (map (string 8) gs) (string 8 b))
 
-  split_last : (front : List ℕ) (last : ℕ) → All (λ q. q < 2 ^ (8 * s)) front → last < 2 ^ m
+  split_last : (front : List ℕ) (last : ℕ) → AllByRecursion (λ q. q < 2 ^ (8 * s)) front → last < 2 ^ m
       → length (chained gs ++ b) ≡ s * suc (length front)
       → string 8 (chained gs ++ b) ≡ string (8 * s) (front ++ last ∷ [])
       → (front ≡ map (string 8) gs) × (last ≡ string 8 b)

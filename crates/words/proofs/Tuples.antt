@@ -7,7 +7,7 @@ use native.Mathlib.Decide.{dec_lt}
 use lib.Arith.{digits_lt, digits_div, digits_mod}
 use lib.Count.{ones, ones_cat}
 use lib.Bits.{bit_xor, xor_zero_r, xor_lt}
-use Rattle.std.specs.List.{AllByRecursion as All}
+use Rattle.std.specs.List.{AllByRecursion}
 use Rattle.poly.specs.Poly.{Divides, generator, terms, string}
 use Rattle.poly.specs.Period.{NoReturn}
 use Rattle.poly.proofs.Product.{xor-shl, xor-eq}
@@ -42,11 +42,11 @@ record Lead (h : ℕ) (s : List ℕ) : Type 0 where
   pub rest : List ℕ
   pub pos : 0 < head
   pub low : head < 2 ^ h
-  pub all : All (λ d. d < 2 ^ h) rest
+  pub all : AllByRecursion (λ d. d < 2 ^ h) rest
   pub short : length rest < length s
   pub same : (w : ℕ) → string w s ≡ string w (head ∷ rest)
 
-lead : (h : ℕ) (s : List ℕ) → All (λ d. d < 2 ^ h) s → Zero s ⊎ Lead h s
+lead : (h : ℕ) (s : List ℕ) → AllByRecursion (λ d. d < 2 ^ h) s → Zero s ⊎ Lead h s
 lead h [] a = inl (λ w. refl)
 lead h (x ∷ s) (l, a) = go (eq-zero-or-pos x) (lead h s a)
   where
@@ -67,7 +67,7 @@ lead h (x ∷ s) (l, a) = go (eq-zero-or-pos x) (lead h s a)
       same = λ w. skip z w ∙ t.same w;
     })
 
-all-zero : (h : ℕ) (s : List ℕ) → All (λ d. d < 2 ^ h) s → string h s ≡ 0 → Zero s
+all-zero : (h : ℕ) (s : List ℕ) → AllByRecursion (λ d. d < 2 ^ h) s → string h s ≡ 0 → Zero s
 all-zero h s a e = go (lead h s a)
   where
     go : Zero s ⊎ Lead h s → Zero s
@@ -82,7 +82,7 @@ alone w d s z = ap (bit_xor (d * 2 ^ (w * length s))) (z w) ∙ xor_zero_r (d * 
 
 -- ---- ones
 
-ones_cons : (h d : ℕ) (s : List ℕ) → All (λ d. d < 2 ^ h) s → ones (string h (d ∷ s)) ≡ ones d + ones (string h s)
+ones_cons : (h d : ℕ) (s : List ℕ) → AllByRecursion (λ d. d < 2 ^ h) s → ones (string h (d ∷ s)) ≡ ones d + ones (string h s)
 ones_cons h d s a = ap ones (string-cons h d s a) ∙ ones_cat (h * length s) d (string h s) (string-lt h s a)
 
 not-zero : (burst few : ℕ) (odd : Bool) (e : ℕ) → e ≡ 0 → ¬ Sure burst few odd e
@@ -257,7 +257,7 @@ module _ (h low m low1 n : ℕ) (small : low < 2 ^ h) (odd : low % 2 ≡ 1) (far
           let z : x ≡ 0 = sym (digits_mod d lx) ∙ ap (λ y. y % 2 ^ h) q ∙ mul-mod_left (2 ^ (suc a - h) * b) (2 ^ h) in
           not_one d 1 p ld (subst (Divides (generator h low)) (ap (bit_xor (d * 2)) z ∙ xor_zero_r (d * 2)) v)
 
-  burst : (d : ℕ) (s : List ℕ) (f : ℕ) → 0 < d → d < 2 ^ h → All (λ d. d < 2 ^ h) s → f < 2 ^ h
+  burst : (d : ℕ) (s : List ℕ) (f : ℕ) → 0 < d → d < 2 ^ h → AllByRecursion (λ d. d < 2 ^ h) s → f < 2 ^ h
       → Divides (generator h low) (string 1 (d ∷ s)) → Divides (generator m low1) (bit_xor (string 0 (d ∷ s)) f)
       → ¬ Burst h (string h (d ∷ s) * 2 ^ h + f)
   burst d [] f p ld all lf v w c = not_one d (1 * 0) p ld (subst (Divides (generator h low)) (xor_zero_r (d * 2 ^ (1 * 0))) v)
@@ -289,7 +289,7 @@ module _ (h low m low1 n : ℕ) (small : low < 2 ^ h) (odd : low % 2 ≡ 1) (far
       (multiple_shr h low small odd (bit_xor (d * 2) x) u (subst (Divides (generator h low)) shifted v))
       (subst (Divides (generator m low1)) sum w)
 
-  pub sure_weighted : (s : List ℕ) (f : ℕ) → All (λ d. d < 2 ^ h) s → length s ≤ n → f < 2 ^ m
+  pub sure_weighted : (s : List ℕ) (f : ℕ) → AllByRecursion (λ d. d < 2 ^ h) s → length s ≤ n → f < 2 ^ m
       → Divides (generator h low) (string 1 s) → Divides (generator m low1) (bit_xor (string 0 s) f)
       → ¬ Sure h 3 true (string h s * 2 ^ h + f)
   sure_weighted s f all ln lf v w c = go (lead h s all) c

@@ -1,12 +1,12 @@
 -- The bits at which two byte strings differ, and which changes a code is sure to notice.
 -- Assumes nothing.
 use Rattle.std.specs.Prelude.{◌≡◌, ℕ, ◌*◌, ◌%◌, ◌^◌, ◌<◌, ◌≤◌, Bool, T, List, length, bit_xor, count_ones}
-use Rattle.std.specs.List.{AllByRecursion as All}
+use Rattle.std.specs.List.{AllByRecursion}
 use Rattle.poly.specs.Poly.{string}
 
 -- Byte strings.
 abbrev pub Bytes : List ℕ → Type 0
-Bytes s = All (λ b. b < 2 ^ 8) s
+Bytes s = AllByRecursion (λ b. b < 2 ^ 8) s
 
 -- The flips between two byte strings, as a polynomial: the coefficient of a bit is 1 exactly where the strings differ.
 abbrev pub flips : List ℕ → List ℕ → ℕ

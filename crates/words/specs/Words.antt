@@ -2,7 +2,7 @@
 -- A generator is X^h + low: its degree is h, and its low part has a lower degree.
 -- Assumes nothing.
 use Rattle.std.specs.Prelude.{◌≡◌, ℕ, suc, ◌+◌, ◌-◌, ◌*◌, ◌/◌, ◌%◌, ◌^◌, ◌<◌, ◌≤◌, true, false, ◌↔◌, List, [], ◌∷◌, ◌++◌, length, bit_xor, count_ones}
-use Rattle.std.specs.List.{AllByRecursion as All}
+use Rattle.std.specs.List.{AllByRecursion}
 use Rattle.poly.specs.Poly.{Divides, generator, terms, rem, string}
 use Rattle.poly.specs.Period.{NoReturn}
 use Rattle.words.specs.Flips.{Bytes, Notices}
@@ -32,7 +32,7 @@ plain (q ∷ qs) = bit_xor q (plain qs)
 pub record WeightedSum (s low m low1 : ℕ) (w : List ℕ) : Type 0 where
   pub front : List ℕ
   pub last : ℕ
-  pub fits : All (λ q. q < 2 ^ (8 * s)) front
+  pub fits : AllByRecursion (λ q. q < 2 ^ (8 * s)) front
   pub small : last < 2 ^ m
   pub whole : length w ≡ s * suc (length front)
   pub tuples : string 8 w ≡ string (8 * s) (front ++ last ∷ [])
