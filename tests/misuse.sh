@@ -1,17 +1,26 @@
 #!/bin/sh
 # Two misuses of a running check must not build, and the same code without the misuse must.
-# It proves the engine crate first, or takes over what is proved of it.
+# Each is a small crate over `engine`, in a folder of its own with copies of the crates below it, so nothing of this checkout is touched.
+# What the check has to prove there, and is not kept on this machine, it proves first.
 set -u
 root=$(cd "$(dirname "$0")/.." && pwd -P)
-cd "$root" || exit 2
 here=$(mktemp -d) || exit 2
 trap 'rm -rf "$here"' EXIT
-rt check engine >"$here/log" 2>&1 || { tail -n 5 "$here/log"; echo "misuse: the engine crate is not proved"; exit 1; }
+below='engine poly answer'
+printf 'answer:\npoly: answer\nengine: poly answer\n' >"$here/crates.txt"
+for name in $below; do
+    mkdir -p "$here/crates/$name" || exit 2
+    for part in src specs proofs; do
+        cp -R "$root/crates/$name/$part" "$here/crates/$name/" || exit 2
+    done
+done
+(cd "$here/crates/engine" && rt check) >"$here/log" 2>&1 || { tail -n 5 "$here/log"; echo "misuse: the engine crate is not proved"; exit 1; }
 bad=0
 
-try() { # NAME WANT BODY: WANT is 'builds' or the names of the errors that may stand there, one of them
-    mkdir -p "$here/$1/src"
-    cat >"$here/$1/src/lib.rt" <<R
+try() { # NAME WANT BODY: WANT is 'builds' or the name of the error that must stand there
+    mkdir -p "$here/crates/$1/src" || exit 2
+    cat >"$here/crates/$1/src/lib.rt" <<R
+#![tactic(auto)]
 use engine::engine::Engine;
 use engine::running::RunningCheck;
 
@@ -19,18 +28,19 @@ pub fn $1<E: Engine + Drop>(engine: E, other: E, a: &[u8], b: &[u8]) -> (u32, u3
 $3
 }
 R
-    rt check "$here/$1" --extern "engine=$root/target/rlib/engine.rlib" -L "dependency=$root/target/rlib" >"$here/$1/log" 2>&1
+    echo "$1: $below" >>"$here/crates.txt"
+    (cd "$here/crates/$1" && rt check) >"$here/log" 2>&1
     status=$?
     if [ "$2" = builds ]; then
-        [ $status -eq 0 ] && grep -q '^logic=proved' "$here/$1/log"
+        [ $status -eq 0 ] && grep -q '^logic=proved' "$here/log"
     else
-        [ $status -eq 1 ] && grep -q "error\[$2\]" "$here/$1/log"
+        [ $status -eq 1 ] && grep -q "error\[$2\]" "$here/log"
     fi
     if [ $? -eq 0 ]; then
         echo "misuse $1: $2, as it must"
     else
         echo "misuse $1: NOT $2"
-        head -n 5 "$here/$1/log"
+        tail -n 20 "$here/log"
         bad=1
     fi
 }

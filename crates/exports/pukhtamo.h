@@ -1,4 +1,4 @@
-/* The exports of Pukhtamo for C. Link target/staticlib/libexports.a, which `rt staticlib exports` makes.
+/* The exports of Pukhtamo for C. Link crates/exports/out/libexports.a, which `rt lib` makes in crates/exports.
  *
  * An engine is a value of the caller's. Get one from its `new`, copy it as you like, and pass a pointer to it.
  * Its fields are shown for their size alone: to write one by hand breaks what is proved of the calls.

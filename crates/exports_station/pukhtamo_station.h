@@ -1,5 +1,5 @@
-/* Kinds 1 to 3 and stations over them, over the table engine, for C. Link target/staticlib/libexports_station.a, which
- * `rt staticlib exports_station` makes.
+/* Kinds 1 to 3 and stations over them, over the table engine, for C. Link
+ * crates/exports_station/out/libexports_station.a, which `rt lib` makes in crates/exports_station.
  *
  * A station is not handed out. Each of its calls is given the changes that were made so far, makes them at a new station, one
  * after the other, refused ones included, and then makes the call there.
