@@ -1,4 +1,4 @@
-"""How the report writes numbers, messages and refusals."""
+"""How the survey writes numbers, messages and refusals."""
 
 from codes import ENGINES, Refusal, set_engine
 

@@ -1,4 +1,4 @@
-"""The parts of the report on published vectors, and on what lines and stations
+"""The parts of the survey on published vectors, and on what lines and stations
 refuse."""
 
 import poly
