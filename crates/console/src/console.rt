@@ -90,6 +90,7 @@ impl<K: Kind> Console<K> {
         ensures printed { Admitted (asked (K.model self.old.station.bank)) (items self.old.station.book) → out.new.items ≡ out.old.items ++ if_ok result (printed_of (asked (K.model self.old.station.bank)) number (items self.old.station.book) (deed_of line.now)) [] }
         ensures book { items self.new.station.book ≡ if_ok result (book_after_line (asked (K.model self.old.station.bank)) (items self.old.station.book) (deed_of line.now)) (items self.old.station.book) }
         ensures bank { K.model self.new.station.bank ≡ K.model self.old.station.bank }
+        ensures admitted { Admitted (asked (K.model self.old.station.bank)) (items self.old.station.book) → Admitted (asked (K.model self.new.station.bank)) (items self.new.station.book) }
         ensures needs { vec_len out.old + 8300 ≤ vec_capacity out.old → is_ok result ≡ true }
     {
         room_for_line(out)?;
