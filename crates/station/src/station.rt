@@ -79,6 +79,17 @@ impl<K: Kind> Station<K> {
         self.book.remove(number)
     }
 
+    // Seal at any book.
+    fn seal_fitting(&mut self, number: u8, message: &[u8], out: &mut [u8]) -> Result<usize, Fault>
+        ensures answer { read result ≡ length_of (sealed_fitting (asked (K.model self.old.bank)) (items self.old.book) number message.now (length out.old)) }
+        ensures written { out.new ≡ written (sealed_fitting (asked (K.model self.old.bank)) (items self.old.book) number message.now (length out.old)) out.old }
+        ensures book { self.new.book ≡ self.old.book }
+        ensures bank { K.model self.new.bank ≡ K.model self.old.bank }
+    {
+        let e = self.book.get(number)?;
+        seal_by(&mut self.bank, e, number, message, out)
+    }
+
     // Writes the frame of a message at the start of the output, and answers its length.
     pub fn seal(&mut self, number: u8, message: &[u8], out: &mut [u8]) -> Result<usize, Fault>
         ensures any { read result ≡ length_of (sealed_fitting (asked (K.model self.old.bank)) (items self.old.book) number message.now (length out.old)) }
@@ -88,8 +99,7 @@ impl<K: Kind> Station<K> {
         ensures book { self.new.book ≡ self.old.book }
         ensures bank { K.model self.new.bank ≡ K.model self.old.bank }
     {
-        let e = self.book.get(number)?;
-        seal_by(&mut self.bank, e, number, message, out)
+        self.seal_fitting(number, message, out)
     }
 
     // Hands over the part of the frame that is the message.
