@@ -10,6 +10,8 @@ sys.dont_write_bytecode = True
 import poly                                                      # noqa: E402
 from codes import (CATALOGUE, Description, Refusal,              # noqa: E402
                    period_call, published, set_engine, three_kinds)
+from shows import (ALL_BYTES, hex_even, hex_for, refusal_of,      # noqa: E402
+                   shown)
 
 # the engines that the report is on; the survey has slicing too
 ENGINES = ("bitwise", "table", "ready-made", "fast")
@@ -25,8 +27,6 @@ GENERATORS = (
     ("WSC-8 first", 8, 0x1D),
     ("WSC-8 second", 5, 0x15),
 )
-
-ALL_BYTES = bytes(range(256))
 
 MESSAGES = (
     b"",
@@ -60,35 +60,7 @@ REFUSED = (
 )
 
 
-def hex_for(value, degree):
-    """Upper-case hexadecimal, four bits of the degree a digit."""
-    return "%0*X" % ((degree + 3) // 4, value)
-
-
-def hex_even(value):
-    """Upper-case hexadecimal in whole bytes, one at the least."""
-    return value.to_bytes(max(1, (value.bit_length() + 7) // 8),
-                          "big").hex().upper()
-
-
-def shown(message):
-    if message == b"":
-        return "nothing"
-    if message == ALL_BYTES:
-        return "256 bytes 00 to FF"
-    return message.hex().upper()
-
-
-def refusal_of(call, *arguments):
-    """The refusal a call gives, or None where it accepts."""
-    try:
-        call(*arguments)
-    except Refusal as refusal:
-        return refusal
-    return None
-
-
-def block(name, degree, low):
+def block(name, degree, low, engines):
     yield "%s: degree %d, low part %s, %d terms" % (
         name, degree, hex_for(low, degree), poly.terms(degree, low))
     period, steps = period_call(degree, low)
@@ -99,7 +71,7 @@ def block(name, degree, low):
     yield "  longest word %d bytes" % (
         min(period or poly.LIMIT, poly.LIMIT) // 8)
     carrying = []
-    for engine in ENGINES:
+    for engine in engines:
         refusal = refusal_of(set_engine, engine, degree, low)
         if refusal is None:
             carrying.append(engine)
@@ -118,13 +90,13 @@ def block(name, degree, low):
     yield ""
 
 
-def refusal_line(call, degree, low, engine):
+def refusal_line(call, degree, low, engine, engines):
     if call == "period":
         refusal = refusal_of(period_call, degree, low)
     elif engine is not None:
         refusal = refusal_of(set_engine, engine, degree, low)
     else:
-        each = [refusal_of(set_engine, one, degree, low) for one in ENGINES]
+        each = [refusal_of(set_engine, one, degree, low) for one in engines]
         refusal = each[0]
         if len(set(str(one) for one in each)) != 1:
             raise ValueError("the engines differ over a set refusal")
@@ -209,15 +181,20 @@ def codes():
         "none" if published("CRC-17") is None else "some")
 
 
-def report():
-    lines = []
+def parts(engines):
+    """The lines of the report over these engines."""
     for name, degree, low in GENERATORS:
-        lines.extend(block(name, degree, low))
-    lines.append("Refusals")
-    for row in REFUSED:
-        lines.append(refusal_line(*row))
-    lines.extend(codes())
-    return "".join(line + "\n" for line in lines)
+        for line in block(name, degree, low, engines):
+            yield line
+    yield "Refusals"
+    for call, degree, low, engine in REFUSED:
+        yield refusal_line(call, degree, low, engine, engines)
+    for line in codes():
+        yield line
+
+
+def report():
+    return "".join(line + "\n" for line in parts(ENGINES))
 
 
 def main():
