@@ -13,9 +13,9 @@ use crc::crc_kind::Crc;
 use crc::parity_kind::CrcParity;
 use engine::engine::Engine;
 use engine::table::Table;
-use runs::call::{Call, Outcome};
 use runs::run::run;
 use say::told;
+use station::call::{Call, Outcome};
 use std::alloc::{AllocError, Global};
 use weighted::weighted_kind::WeightedSum;
 

@@ -1,6 +1,6 @@
 // Calls and their outcomes in words.
 use answer::fault::{Fault, Layer};
-use runs::call::{Call, Outcome};
+use station::call::{Call, Outcome};
 use std::{fmt, io};
 
 // Bytes in hexadecimal.

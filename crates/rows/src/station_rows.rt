@@ -1,7 +1,7 @@
 // The rows of the book and of the frame: a call at the book of `stations`, and the refusal that it gives.
 use answer::fault::Layer;
 use code::description::Description;
-use runs::call::Call;
+use station::call::Call;
 
 pub(crate) const HEC: Description = Description {
     kind: 1,

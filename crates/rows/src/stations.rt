@@ -9,8 +9,7 @@ use crc::crc_kind::Crc;
 use crc::parity_kind::CrcParity;
 use engine::engine::Engine;
 use engine::table::Table;
-use runs::call::{Call, Outcome};
-use runs::run::perform;
+use station::call::{Call, Outcome};
 use station::station::Station;
 use std::alloc::Global;
 use std::process::Abort;
@@ -119,7 +118,7 @@ fn shown_by<'a>(call: Call<'a>) -> &'a [u8] {
 
 fn row(rt: &impl Abort, heap: Global, station: &mut Station<Kinds>, row: &Row) -> Result<(), Fail> {
     let (call, number, layer, place) = *row;
-    let fault = refusal_in(rt, perform(heap, station, call)?, shown_by(call))?;
+    let fault = refusal_in(rt, station.perform(heap, call)?, shown_by(call))?;
     assert_eq!(rt; fault.number(), number);
     assert_eq!(rt; fault.layer(), layer);
     assert_eq!(rt; fault.place(), place);

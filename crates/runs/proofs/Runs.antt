@@ -1,30 +1,15 @@
 -- Lists of calls, one call more at a time.
 -- Assumes nothing.
-use Rattle.std.proofs.Common.{◌≡◌, ℕ, ◌+◌, ◌<◌, List, [], ◌∷◌, ◌++◌, length, get_or, take, Result, sym, refl, ap, ◌∙◌, ap₂}
-use Rattle.std.proofs.lemmas.List.{take_at, map_more, map_push}
-use Rattle.answer.specs.Refusal.{Refusal}
-use Rattle.code.specs.Model.{Model, Asked, asked, length_of, written}
-use Rattle.runs.specs.declared.call.Call.{Call as Made}
-use Rattle.runs.specs.declared.call.Outcome.{Outcome}
+use Rattle.std.proofs.Common.{◌≡◌, ℕ, ◌+◌, ◌<◌, List, [], ◌∷◌, ◌++◌, length, get_or, take, sym, refl, ap, ◌∙◌, ap₂}
+use Rattle.std.proofs.lemmas.List.{map_more, map_push}
+use Rattle.code.specs.Model.{Model, Asked, asked}
+use Rattle.station.specs.declared.call.Call.{Call as Made}
+use Rattle.station.specs.declared.call.Outcome.{Outcome}
 use Rattle.station.specs.Book.{PlainBook, empty_book}
-use Rattle.station.specs.Calls.{Call, ask, trial, wrote, tried, trying, answer, step, run, answers_from}
+use Rattle.station.specs.Calls.{Call, answer, step, run, answers_from}
 use Rattle.station.specs.Fitting.{all_admitted, Admitted}
 use Rattle.station.proofs.Admission.{run-admitted}
-use Rattle.runs.specs.Outcomes.{plain_call, plain_calls, outcome_seen, outcomes_seen}
-
--- ---- a call on a copy: `now` is the copy, `last` what the call left, and more room may lie behind it
-
-pub wrote_copy : (by : ℕ → Result (List ℕ) Refusal) (out now last behind : List ℕ) (x : Result ℕ Refusal) (len : ℕ) → now ≡ out → length last ≡ len
-    → x ≡ length_of (by (length now)) → last ≡ written (by (length now)) now
-    → wrote x (take len (last ++ behind)) ≡ wrote (length_of (by (length out))) (written (by (length out)) out)
-wrote_copy by out now last behind x len e l p q =
-    ap (wrote x) (take_at last behind len l) ∙ ap₂ wrote p q ∙ ap (λ o. wrote (length_of (by (length o))) (written (by (length o)) o)) e
-
-pub tried_copy : (a : Asked) (b : PlainBook) (frame now last : List ℕ) (at byte : ℕ) (behind : List ℕ) (x : Result (Unit {0}) Refusal) (len : ℕ)
-    → now ≡ frame → length last ≡ len → x ≡ trying a b now at byte → last ≡ now
-    → tried x (take len (last ++ behind)) ≡ answer a b (ask (trial frame at byte))
-tried_copy a b frame now last at byte behind x len e l p q =
-    ap (tried x) (take_at last behind len l) ∙ ap₂ tried p q ∙ ap (λ f. tried (trying a b f at byte) f) e
+use Rattle.station.specs.Outcomes.{plain_call, plain_calls, outcome_seen, outcomes_seen}
 
 -- ---- one call more
 

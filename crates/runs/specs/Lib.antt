@@ -1,6 +1,5 @@
 pub mod Promises
 pub mod Books
 pub mod Ruling
-pub mod Outcomes
 pub mod Numbers
 pub mod Pledge

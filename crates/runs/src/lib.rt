@@ -1,5 +1,4 @@
-// Calls as values, lists of them on a new station, and what stations promise.
+// Lists of calls on a new station, and what stations promise.
 #![tactic(auto)]
 
-pub mod call;
 pub mod run;

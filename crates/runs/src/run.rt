@@ -1,4 +1,4 @@
-// One call as a value, and a list of them on a new station.
+// A list of calls on a new station.
 ghost use Rattle.std.specs.Prelude.{◌≡◌, ◌≤◌, true, false, length, is_ok, IfOk};
 ghost use Rattle.std.specs.List.{AllByRecursion};
 ghost use Rattle.answer.specs.Refusal.{if_ok};
@@ -10,50 +10,12 @@ ghost use Rattle.station.specs.Items.{items};
 ghost use Rattle.runs.specs.Pledge.{StationsPromise};
 ghost use Rattle.runs.specs.Numbers.{AllByNumbers};
 ghost use Rattle.runs.specs.Ruling.{AllByRules};
-ghost use Rattle.runs.specs.Outcomes.{plain_call, plain_calls, outcome_seen, outcomes_seen};
+ghost use Rattle.station.specs.Outcomes.{plain_call, plain_calls, outcome_seen, outcomes_seen};
 
-use crate::call::{Call, Outcome, Ran};
 use code::kind::Kind;
+use station::call::{Call, Ran};
 use station::station::Station;
 use std::alloc::{AllocError, Global};
-
-// Makes a call. The output and the frame are copies of what the call shows; without memory for them nothing is done. The other calls need none.
-pub fn perform<'a, K: Kind>(
-    heap: Global,
-    station: &mut Station<K>,
-    call: Call<'a>,
-) -> Result<Outcome<'a>, AllocError>
-    ensures answer { IfOk result (λ o. Admitted (asked (K.model station.old.bank)) (items station.old.book) → outcome_seen o ≡ answer (asked (K.model station.old.bank)) (items station.old.book) (plain_call call.entry)) }
-    ensures any { IfOk result (λ o. outcome_seen o ≡ answer_fitting (asked (K.model station.old.bank)) (items station.old.book) (plain_call call.entry)) }
-    ensures needs { copies (plain_call call.entry) ≡ false → is_ok result ≡ true }
-    ensures book { items station.new.book ≡ if_ok result (step (asked (K.model station.old.bank)) (items station.old.book) (plain_call call.entry)) (items station.old.book) }
-    ensures bank { K.model station.new.bank ≡ K.model station.old.bank }
-{
-    match call {
-        Call::Enter {
-            number,
-            description,
-            reach,
-        } => Ok(Outcome::Done(station.enter(number, description, reach))),
-        Call::Narrow { number, reach } => Ok(Outcome::Done(station.narrow(number, reach))),
-        Call::Retire { number } => Ok(Outcome::Done(station.retire(number))),
-        Call::Seal {
-            number,
-            message,
-            out,
-        } => {
-            let mut copy = out.to_vec(heap)?;
-            let answer = station.seal(number, message, copy.as_mut_slice());
-            Ok(Outcome::Wrote(answer, copy))
-        }
-        Call::Take { frame } => Ok(Outcome::Handed(station.take(frame), frame)),
-        Call::Trial { frame, at, byte } => {
-            let mut copy = frame.to_vec(heap)?;
-            let answer = station.trial(copy.as_mut_slice(), at, byte);
-            Ok(Outcome::Tried(answer, copy))
-        }
-    }
-}
 
 // One call after the other.
 fn run_all<'a, K: Kind + Drop>(
@@ -72,7 +34,7 @@ fn run_all<'a, K: Kind + Drop>(
     let mut station = Station::new(bank);
     let mut outcomes = Vec::new(heap);
     for call in calls {
-        let outcome = perform(heap, &mut station, *call)?;
+        let outcome = station.perform(heap, *call)?;
         outcomes.push(outcome)?;
     }
     Ok(Ran { station, outcomes })

@@ -8,3 +8,4 @@ pub mod Taken
 pub mod Writing
 pub mod Sealed
 pub mod Admission
+mod Copied

@@ -5,3 +5,4 @@ pub mod Calls
 pub mod Items
 pub mod Parts
 pub mod Fitting
+pub mod Outcomes

@@ -2,6 +2,7 @@
 #![tactic(auto)]
 
 mod book;
+pub mod call;
 mod ccitt;
 mod checking;
 mod difference;
@@ -11,6 +12,7 @@ mod layout;
 mod measure;
 mod parts;
 mod place;
+pub mod run;
 mod sealing;
 pub mod station;
 pub mod table;

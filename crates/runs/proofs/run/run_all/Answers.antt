@@ -3,11 +3,11 @@
 use Rattle.std.proofs.Common.{cond, List, [], ◌∷◌, ◌++◌, is_ok, vec_items, sym, refl, ap, ◌∙◌, subst, ap₂, arith, length-take}
 use Rattle.std.proofs.lemmas.List.{take_all}
 use Rattle.code.specs.Model.{asked, Model}
-use Rattle.runs.specs.declared.call.Call.{Call as Made}
+use Rattle.station.specs.declared.call.Call.{Call as Made}
 use Rattle.station.specs.Book.{empty_book}
 use Rattle.station.specs.Calls.{answers_from, run}
 use Rattle.station.specs.Items.{items}
-use Rattle.runs.specs.Outcomes.{plain_calls, outcomes_seen}
+use Rattle.station.specs.Outcomes.{plain_calls, outcomes_seen}
 use Rattle.runs.specs.Numbers.{AllByNumbers}
 use Rattle.runs.specs.Ruling.{AllByRules}
 use Rattle.station.specs.Fitting.{all_admitted}
@@ -30,7 +30,7 @@ loop-call-preserved g c =
     let grown = c.push.ensures.items ∙ ap (λ r. cond (is_ok r) (outs ++ o ∷ []) outs) c.in_ok-push.was in
     let t =
     turn (m c.new-station.result.bank) (m l.station.bank) c.args.calls.now l.call-index _ outs (vec_items c.push.new.self) o
-    (items l.station.book) (items c.perform.new.station.book) (omega arith) l.invariant.0 l.invariant.1 l.invariant.2 grown told.answer told.book in
+    (items l.station.book) (items c.perform.new.self.book) (omega arith) l.invariant.0 l.invariant.1 l.invariant.2 grown told.answer told.book in
     (t.0, t.1, told.bank ∙ l.invariant.2)
 
 pub returns : goal.returns

@@ -2,10 +2,10 @@
 -- Assumes nothing.
 use Rattle.std.specs.Prelude.{List, map, vec_items}
 use Rattle.answer.specs.Refusal.{read}
-use Rattle.runs.specs.declared.call.Call.{Call as Made}
-use Rattle.runs.specs.declared.call.Call.TheVariants.{Enter, Narrow, Retire, Seal, Take, Trial}
-use Rattle.runs.specs.declared.call.Outcome.{Outcome}
-use Rattle.runs.specs.declared.call.Outcome.TheVariants.{Done, Wrote, Handed, Tried}
+use Rattle.station.specs.declared.call.Call.{Call as Made}
+use Rattle.station.specs.declared.call.Call.TheVariants.{Enter, Narrow, Retire, Seal, Take, Trial}
+use Rattle.station.specs.declared.call.Outcome.{Outcome}
+use Rattle.station.specs.declared.call.Outcome.TheVariants.{Done, Wrote, Handed, Tried}
 use Rattle.station.specs.Calls.{Call, change, ask, enter, narrow, retire, seal, take, trial, Answer, done, wrote, handed, tried}
 use Rattle.station.specs.Items.{seen}
 

@@ -1,7 +1,7 @@
 // Calls as values, and what each call gave.
+use crate::station::Station;
 use answer::fault::Fault;
 use code::description::Description;
-use station::station::Station;
 
 #[derive(Clone, Copy)]
 pub enum Call<'a> {

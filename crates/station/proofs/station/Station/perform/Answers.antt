@@ -7,14 +7,14 @@ use Rattle.station.specs.Items.{items}
 use Rattle.station.specs.Calls.{answer, step}
 use Rattle.station.specs.Fitting.{sealed_fitting, answer_fitting}
 use Rattle.station.specs.Frame.{sealed}
-use Rattle.runs.specs.Outcomes.{plain_call}
-use Rattle.runs.proofs.Runs.{wrote_copy, tried_copy}
-use Rattle.runs.proofs.run.perform.Goals as goal
+use Rattle.station.specs.Outcomes.{plain_call}
+use Rattle.station.proofs.Copied.{wrote_copy, tried_copy}
+use Rattle.station.proofs.station.Station.perform.Goals as goal
 
 pub returns-in_ok-copy-in-Seal : goal.returns-in_ok-copy-in-Seal
 returns-in_ok-copy-in-Seal g c =
-    let a = asked (g.K.Kind.model c.args.station.now.bank) in
-    let b = items c.args.station.now.book in
+    let a = asked (g.K.Kind.model c.args.self.now.bank) in
+    let b = items c.args.self.now.book in
     let s = c.seal-answer in
     let copy = c.in_ok-copy-in-Seal.copy in
     let same = c.as_mut_slice.ensures.value ∙ c.in_ok-copy-in-Seal.ensures.items_if_clones_equal (λ x y h. h) in
@@ -35,8 +35,8 @@ returns-in_ok-copy-in-Seal g c =
 
 pub returns-in_ok-copy-in-Trial : goal.returns-in_ok-copy-in-Trial
 returns-in_ok-copy-in-Trial g c =
-    let a = asked (g.K.Kind.model c.args.station.now.bank) in
-    let b = items c.args.station.now.book in
+    let a = asked (g.K.Kind.model c.args.self.now.bank) in
+    let b = items c.args.self.now.book in
     let s = c.trial-answer in
     let copy = c.in_ok-copy-in-Trial.copy in
     let same = c.as_mut_slice-in-Trial.ensures.value ∙ c.in_ok-copy-in-Trial.ensures.items_if_clones_equal (λ x y h. h) in
