@@ -592,20 +592,25 @@ def the_script():
     same(text[-1:] != b"\n", True)
 
 
-# ----------------------------------------------------------------- report
-def the_report():
-    text = report.report()
+# ------------------------------------------------------ report and survey
+def told(text, more):
+    """What a text tells of CRC-16, by the report's engines and these more,
+    and of refusals."""
     lines = text.split("\n")
+    behind = len(more)
+    by = ", ".join(["bitwise", "table"] + more)
     same(lines[0], "CRC-16: degree 16, low part 8005, 4 terms")
     same(lines[1], "  period 32767 after 32767 steps")
     same(lines[2], "  longest word 4095 bytes")
-    same(lines[3:7], ["  bitwise carries it", "  table carries it",
-                      "  ready-made refuses it: 15 engine 4",
-                      "  fast refuses it: 15 engine 4"])
-    same(lines[7], "  nothing leaves 0000 by bitwise, table")
-    same(lines[11], "  313233343536373839 leaves FEE8 by bitwise, table")
-    same(lines[16], "  no piece leaves 0000 by bitwise, table")
-    same(lines[18], "")
+    same(lines[3:7 + behind],
+         ["  bitwise carries it", "  table carries it",
+          "  ready-made refuses it: 15 engine 4",
+          "  fast refuses it: 15 engine 4"]
+         + ["  %s carries it" % engine for engine in more])
+    same(lines[7 + behind], "  nothing leaves 0000 by " + by)
+    same(lines[11 + behind], "  313233343536373839 leaves FEE8 by " + by)
+    same(lines[16 + behind], "  no piece leaves 0000 by " + by)
+    same(lines[18 + behind], "")
     same(text.endswith("\n") and not text.endswith("\n\n"), True)
     same(text[text.index("Refusals"):text.index("\nCodes")], """Refusals
   engine set, degree 7, low part 07: 12 engine 3
@@ -620,40 +625,7 @@ def the_report():
   period, degree 8, low part 0107: 13 engine 4
 """)
     same("  no period up to 32768 after 32768 steps\n" in text, True)
-    same("  FFFF leaves 1D0F by bitwise, table\n" in text, True)
-
-
-# ----------------------------------------------------------------- survey
-def the_survey():
-    text = survey.survey()
-    lines = text.split("\n")
-    same(lines[0], "CRC-16: degree 16, low part 8005, 4 terms")
-    same(lines[1], "  period 32767 after 32767 steps")
-    same(lines[2], "  longest word 4095 bytes")
-    same(lines[3:8], ["  bitwise carries it", "  table carries it",
-                      "  ready-made refuses it: 15 engine 4",
-                      "  fast refuses it: 15 engine 4",
-                      "  slicing carries it"])
-    same(lines[8], "  nothing leaves 0000 by bitwise, table, slicing")
-    same(lines[12],
-         "  313233343536373839 leaves FEE8 by bitwise, table, slicing")
-    same(lines[17], "  no piece leaves 0000 by bitwise, table, slicing")
-    same(lines[19], "")
-    same(text.endswith("\n") and not text.endswith("\n\n"), True)
-    same(text[text.index("Refusals"):text.index("\nCodes")], """Refusals
-  engine set, degree 7, low part 07: 12 engine 3
-  engine set, degree 33, low part 07: 12 engine 3
-  engine set, degree 8, low part 06: 13 engine 4
-  engine set, degree 8, low part 0107: 13 engine 4
-  engine set, degree 16, low part 8005 by fast: 15 engine 4
-  engine set, degree 16, low part 1021 by ready-made: 15 engine 4
-  period, degree 1, low part 01: 12 engine 3
-  period, degree 33, low part 01: 12 engine 3
-  period, degree 8, low part 06: 13 engine 4
-  period, degree 8, low part 0107: 13 engine 4
-""")
-    same("  no period up to 32768 after 32768 steps\n" in text, True)
-    same("  FFFF leaves 1D0F by bitwise, table, slicing\n" in text, True)
+    same("  FFFF leaves 1D0F by %s\n" % by in text, True)
 
 
 def main():
@@ -672,8 +644,8 @@ def main():
     line_program()
     the_page()
     the_script()
-    the_report()
-    the_survey()
+    told(report.report(), [])
+    told(survey.survey(), ["slicing"])
     print("reference: %d checks, all right" % done)
 
 
