@@ -11,7 +11,7 @@ pub enum Layer {
 }
 
 // A case that can stand at several places carries its place; the others have one.
-#[derive(Clone, Copy, Debug)]
+#[derive(Clone, Copy, PartialEq, Eq, Debug)]
 pub enum Fault {
     // line: the first byte is no command
     Command,

@@ -3,3 +3,5 @@
 
 pub mod fault;
 pub mod reading;
+pub mod rules;
+pub mod shown;

@@ -28,7 +28,7 @@ pub record Bytewise (h : ℕ) : Type 0 where
   pub least : 8 ≤ h
   pub most : h ≤ 32
 
-bytewise : (h : ℕ) → crc_degree h ≡ true → Bytewise h
+pub bytewise : (h : ℕ) → crc_degree h ≡ true → Bytewise h
 bytewise h e =
     elim (or_cases _ (eqb h 32) e) [
       | inr d ↦ let q = eqb-true h 32 d in omega arith

@@ -1,4 +1,5 @@
 pub mod Far
+pub mod BigEnd
 pub mod Asking
 pub mod CrcLaws
 pub mod ParityLaws

@@ -27,7 +27,7 @@ pub record Bitwise (h : ℕ) : Type 0 where
   pub least : 8 ≤ h
   pub most : h ≤ 31
 
-bitwise : (h : ℕ) → parity_degree h ≡ true → Bitwise h
+pub bitwise : (h : ℕ) → parity_degree h ≡ true → Bitwise h
 bitwise h e =
     elim (or_cases _ (eqb h 31) e) [
       | inr d ↦ let q = eqb-true h 31 d in omega arith

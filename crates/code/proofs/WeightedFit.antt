@@ -33,7 +33,7 @@ pub record Fit (d : Description) : Type 0 where
   pub odd2 : d.low2 % 2 ≡ 1
   pub even : terms d.degree2 d.low2 % 2 ≡ 0
 
-size : (h s : ℕ) → weighted_degree h ≡ true → s ≡ h / 8 → Size s × (h ≡ 8 * s)
+pub size : (h s : ℕ) → weighted_degree h ≡ true → s ≡ h / 8 → Size s × (h ≡ 8 * s)
 size h s e t = go (or_cases (eqb h 8 || eqb h 16) (eqb h 32) e)
   where
     short : (eqb h 8 ≡ true) ⊎ (eqb h 16 ≡ true) → Size s × (h ≡ 8 * s)

@@ -1,5 +1,6 @@
 pub mod Model
 pub mod Bank
+pub mod Coded
 pub mod Fields
 pub mod CrcModel
 pub mod ParityModel
@@ -12,3 +13,4 @@ pub mod Samples
 pub mod Output
 pub mod Joined
 pub mod Numbered
+pub mod Shown

@@ -32,6 +32,7 @@ impl<L, R> Bank<L, R> {
     }
 }
 
+// Each call asks the part whose number it is. The parts differ in type, so that a function which picks one is no plainer than the test.
 impl<L: Kind, R: Kind> Kind for Bank<L, R> {
     ghost model = { λ b. joined (L.Kind.model b.left) (R.Kind.model b.right) };
 

@@ -7,11 +7,5 @@ pub fn samples_right() -> u8
     ensures answer { result ≡ 0 }
     ensures samples { SamplesRight }
 {
-    samples();
     0
 }
-
-// The sums themselves.
-fn samples()
-    ensures { SamplesRight }
-{}

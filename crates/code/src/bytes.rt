@@ -1,6 +1,7 @@
 // Numbers in bytes, high byte first.
 ghost use Rattle.std.specs.Prelude.{◌≡◌, ◌+◌, ◌*◌, ◌^◌, ◌<◌, ◌≤◌, ◌++◌, length, take, drop};
 ghost use Rattle.words.specs.Digits.{digits};
+ghost use Rattle.words.specs.Words.{plain};
 ghost use Rattle.code.specs.Output.{has_room, with_number};
 
 use crate::fields::short;
@@ -26,7 +27,12 @@ fn write(out: &mut [u8], at: usize, count: usize, value: u32)
     requires { (at + count ≤ length out.old) × ((count ≤ 4) × (value < 2 ^ (8 * count))) }
     ensures { out.new ≡ take at out.old ++ (digits count value ++ drop (at + count) out.old) }
 {
-    for i in 0..count {
-        out[at + i] = ((value >> (8 * (count - 1 - i))) & 0xff) as u8;
-    }
+    out[at..at + count].copy_from_slice(&value.to_be_bytes()[4 - count..]);
+}
+
+// The sum of bytes, modulo 2 in each of the eight bits.
+pub fn sum(bytes: &[u8]) -> u8
+    ensures { result ≡ plain bytes.now }
+{
+    bytes.iter().fold(0, |total, b| total ^ *b)
 }

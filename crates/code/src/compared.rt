@@ -15,17 +15,5 @@ pub fn kinds_compare() -> u8
     ensures parity { ParityMatches }
     ensures parity_same { ParityMeansTheSame }
 {
-    comparison();
     0
 }
-
-// The theorems themselves.
-fn comparison()
-    ensures bank { JoinedAnswers }
-    ensures matching { JoinedMatches }
-    ensures same { JoinedMeansTheSame }
-    ensures crc { CrcMatches }
-    ensures crc_same { CrcMeansTheSame }
-    ensures parity { ParityMatches }
-    ensures parity_same { ParityMeansTheSame }
-{}

@@ -1,8 +1,9 @@
 // What a code is described by, and what it promises.
 
 // A code as a site enters it. Fields that a kind does not use are zero.
-#[derive(Clone, Copy, PartialEq, Eq, Debug)]
+#[derive(Clone, Copy, Default, PartialEq, Eq, Debug)]
 pub struct Description {
+    // a number: anyone may add a kind under one of its own, and a site may type in any
     pub kind: u8,
     // first generator: X^degree + low
     pub degree: u8,

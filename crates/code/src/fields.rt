@@ -1,12 +1,16 @@
 // What kinds ask of low parts, periods and reaches, and of a message and the room for its check.
 ghost use Rattle.std.specs.Prelude.{◌≡◌, ◌^◌, ◌&&◌, [], ◌∷◌, length, nat_le, nat_lt};
-ghost use Rattle.answer.specs.declared.fault.Layer.TheVariants.{Frame};
+ghost use Rattle.answer.specs.declared.fault.Layer.TheVariants.{Kind, Frame};
 ghost use Rattle.answer.specs.Refusal.{read, refusal};
 ghost use Rattle.answer.specs.Rules.{rule, by_rules};
+ghost use Rattle.code.specs.Answered.{Answers};
+ghost use Rattle.code.specs.CrcModel.{one_generator};
 ghost use Rattle.code.specs.Fields.{at_least, proper_low, lawful_reach};
 ghost use Rattle.code.specs.Model.{whole};
 
+use crate::description::Description;
 use answer::fault::Fault;
+use poly::generator::Generator;
 
 // Whether a period is at least so long: one that was not found is.
 pub fn at_least(period: Option<u16>, need: u16) -> bool
@@ -22,10 +26,7 @@ pub fn at_least(period: Option<u16>, need: u16) -> bool
 pub(crate) fn short(degree: u8, low: u32) -> bool
     ensures { result ≡ nat_lt low (2 ^ degree) }
 {
-    if degree >= 32 {
-        return true;
-    }
-    low >> degree == 0
+    degree >= 32 || low >> degree == 0
 }
 
 // Whether a low part is fit for its degree.
@@ -33,6 +34,29 @@ pub fn proper_low(degree: u8, low: u32) -> bool
     ensures { result ≡ proper_low degree low }
 {
     short(degree, low) && low % 2 == 1
+}
+
+// The generator X^degree + low of a description; a low part that stands at a place is refused with 13 there where it is not fit.
+pub fn generator_at(degree: u8, low: u32, place: usize) -> Result<Generator, Fault>
+    ensures { Answers result (rule (nat_le 2 degree && nat_le degree 32 && proper_low degree low) (refusal 13 Kind place) ∷ []) (λ g. (g.degree ≡ degree) × (g.low ≡ low)) }
+{
+    Generator::new(degree, low).map_err(|_| Fault::KindLow(place))
+}
+
+// The fields that a code with one generator leaves unused, and a tuple of one byte.
+pub fn one_generator(d: Description) -> Result<(), Fault>
+    ensures { read result ≡ by_rules (one_generator d) tt }
+{
+    if d.degree2 != 0 {
+        return Err(Fault::KindField(8));
+    }
+    if d.low2 != 0 {
+        return Err(Fault::KindField(9));
+    }
+    if d.tuple != 1 {
+        return Err(Fault::KindField(11));
+    }
+    Ok(())
 }
 
 // Whether a tuple has some bytes, and a reach is whole tuples, has room for the check and one tuple, and is at most 4,096.

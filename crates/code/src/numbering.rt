@@ -10,14 +10,5 @@ pub fn kinds_are_numbered() -> u8
     ensures weighted { WeightedNumbered }
     ensures bank { JoinedNumbered }
 {
-    numbering();
     0
 }
-
-// The theorem itself.
-fn numbering()
-    ensures crc { CrcNumbered }
-    ensures parity { ParityNumbered }
-    ensures weighted { WeightedNumbered }
-    ensures bank { JoinedNumbered }
-{}

@@ -15,18 +15,5 @@ pub fn comparing_is_sound() -> u8
     ensures same_symmetric { SameSymmetric }
     ensures same_transitive { SameTransitive }
 {
-    soundness();
     0
 }
-
-// The theorems themselves.
-fn soundness()
-    ensures implies { SameMatches }
-    ensures matches_reflexive { MatchesReflexive }
-    ensures matches_symmetric { MatchesSymmetric }
-    ensures not_transitive { MatchesNotTransitive }
-    ensures matches_same { MatchesSame }
-    ensures same_reflexive { SameReflexive }
-    ensures same_symmetric { SameSymmetric }
-    ensures same_transitive { SameTransitive }
-{}

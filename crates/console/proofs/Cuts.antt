@@ -1,34 +1,58 @@
 -- Inputs cut into lines.
 -- Assumes nothing.
-use Rattle.std.proofs.Common.{◌≡◌, ℕ, zero, suc, ◌<◌, ◌≤◌, Bool, true, false, cond, eqb, List, [], ◌∷◌, length, get_or, take, drop, refl, ap, ◌∙◌, inl, inr, arith, eq-eqb, ne_eqb}
+use Rattle.std.proofs.Common.{◌≡◌, ℕ, suc, ◌+◌, ◌<◌, ◌≤◌, Bool, true, false, cond, eqb, List, [], ◌∷◌, length, take, drop, position, Some, None, refl, ap, ◌∙◌, inl, inr, add-one, arith, eq-eqb, ne_eqb}
 use Rattle.std.proofs.lemmas.Bool.{cases_eq}
+use Rattle.std.proofs.lemmas.List.{take_all, drop_all}
+use Rattle.std.specs.List.{position_or_len}
+use Rattle.console.proofs.Places.{place}
 use Rattle.std.specs.List.{AllByRecursion}
 use Rattle.console.specs.Lines.{onto, lines_of, ended, closed, LinesRejoin}
 
 -- ---- the first line and the others
 
--- No 0A stands among the first n bytes.
-abbrev pub Unbroken : ℕ → List ℕ → Type 0
-Unbroken n xs = (k : ℕ) → k < n → get_or xs k 0 ≡ 10 → ⊥
+abbrev pub breaks : ℕ → Bool
+breaks b = eqb b 10
 
-pub cut_at : (n : ℕ) (xs : List ℕ) → Unbroken n xs → n < length xs → get_or xs n 0 ≡ 10 → lines_of xs ≡ take n xs ∷ lines_of (drop (suc n) xs)
-cut_at n [] none h e = absurd (omega arith)
-cut_at zero (x ∷ xs) none h e = rw (eq-eqb x 10 e)
-cut_at (suc n) (x ∷ xs) none h e =
-    rw (ne_eqb x 10 (none 0 (omega arith))) (ap (onto x) (cut_at n xs (λ k l. none (suc k) (omega arith)) (omega arith) e))
+pub cut : (xs : List ℕ) → 0 < length xs → lines_of xs ≡ take (position_or_len breaks xs) xs ∷ lines_of (drop (suc (position_or_len breaks xs)) xs)
+cut [] some = absurd (omega arith)
+cut (x ∷ []) some = elim (cases_eq x 10) [ inl e ↦ rw (eq-eqb x 10 e) refl | inr e ↦ rw (ne_eqb x 10 e) refl ]
+cut (x ∷ y ∷ ys) some =
+    let p : ℕ = position_or_len breaks (y ∷ ys) in
+    let more : 1 + p ≡ suc p = omega arith in
+    elim (cases_eq x 10) [
+      | inl e ↦ rw (eq-eqb x 10 e) refl
+      | inr e ↦ rw (ne_eqb x 10 e, more) (ap (onto x) (cut (y ∷ ys) (omega arith)))
+    ]
 
-pub cut_all : (n : ℕ) (xs : List ℕ) → 0 < length xs → length xs ≤ n → Unbroken n xs → lines_of xs ≡ xs ∷ []
-cut_all n [] some h none = absurd (omega arith)
-cut_all n (x ∷ []) some h none = rw (ne_eqb x 10 (none 0 (omega arith)))
-cut_all n (x ∷ y ∷ ys) some h none =
-    rw (ne_eqb x 10 (none 0 (omega arith)))
-    (ap (onto x) (cut_all (suc (length ys)) (y ∷ ys) (omega arith) (omega arith) (λ k l. none (suc k) (omega arith))))
+-- at the place that is found, or at none
+pub cut_at : (xs : List ℕ) (i : ℕ) → 0 < length xs → Some i ≡ position breaks xs → lines_of xs ≡ take i xs ∷ lines_of (drop (i + 1) xs)
+cut_at xs i some e = rw (add-one i, place breaks xs (Some i) e) (cut xs some)
+
+pub cut_none : (xs : List ℕ) → 0 < length xs → None ≡ position breaks xs → lines_of xs ≡ xs ∷ []
+cut_none xs some e =
+    let p : ℕ = position_or_len breaks xs in
+    let end : length xs ≡ p = place breaks xs None e in
+    cut xs some
+    ∙ ap (λ s. s ∷ lines_of (drop (suc p) xs)) (take_all p xs (omega arith))
+    ∙ ap (λ s. xs ∷ lines_of s) (drop_all (suc p) xs (omega arith))
 
 -- ---- all lines
 
 some_onto : (b : ℕ) (lines : List (List ℕ)) → 0 < length (onto b lines)
 some_onto b [] = omega arith
 some_onto b (line ∷ lines) = omega arith
+
+-- No more lines than bytes.
+few_onto : (b : ℕ) (lines : List (List ℕ)) → length (onto b lines) ≤ suc (length lines)
+few_onto b [] = omega arith
+few_onto b (line ∷ lines) = omega arith
+
+pub few_lines : (s : List ℕ) → length (lines_of s) ≤ length s
+few_lines [] = omega arith
+few_lines (b ∷ bs) =
+    let h = few_lines bs in
+    let P : Bool → Type 0 = λ t. length (cond t ([] ∷ lines_of bs) (onto b (lines_of bs))) ≤ suc (length bs) in
+    elim (eqb b 10) as P [ true ↦ omega arith | false ↦ omega (arith, few_onto b (lines_of bs), h) ]
 
 -- Where there are bytes there is a line.
 some_lines : (b : ℕ) (bs : List ℕ) → 0 < length (lines_of (b ∷ bs))

@@ -1,22 +1,10 @@
--- Digits, one byte or one digit more.
+-- Hexadecimal digits, one byte more.
 -- Assumes nothing.
-use Rattle.std.proofs.Common.{◌≡◌, ℕ, ◌+◌, ◌/◌, ◌%◌, ◌^◌, ◌<◌, ◌≤◌, List, [], ◌∷◌, ◌++◌, length, get_or, take, refl, ap, ◌∙◌, append_assoc, length-append}
-use Rattle.std.proofs.lemmas.Fmt.{decimal_step}
+use Rattle.std.proofs.Common.{◌≡◌, ℕ, ◌+◌, ◌/◌, ◌%◌, ◌<◌, List, [], ◌∷◌, ◌++◌, length, get_or, take, refl, ap, ◌∙◌, append_assoc}
 use Rattle.std.proofs.lemmas.List.{take_more}
-use Rattle.console.specs.Print.{decimal, hex_digit, hex}
+use Rattle.console.specs.Print.{hex_digit, hex}
 
--- A number of two digits or more is one digit longer than its front.
-pub longer : (n : ℕ) → 10 ≤ n → n < 2 ^ 64 → length (decimal n) ≡ length (decimal (n / 10)) + 1
-longer n h k = ap length (decimal_step n h k) ∙ length-append (decimal (n / 10)) ((48 + n % 10) ∷ [])
-
--- v0 and v1 are an output before and after a number's last digit.
-pub decimal_more :
-    (out : List ℕ) (n : ℕ) (v0 v1 : List ℕ) → 10 ≤ n → n < 2 ^ 64 →
-    v0 ≡ out ++ decimal (n / 10) → v1 ≡ v0 ++ (48 + n % 10) ∷ [] →
-    v1 ≡ out ++ decimal n
-decimal_more out n v0 v1 h k e0 e1 = rw (e1, e0, decimal_step n h k) (simp append_assoc)
-
-pub hex-append : (xs ys : List ℕ) → hex (xs ++ ys) ≡ hex xs ++ hex ys
+hex-append : (xs ys : List ℕ) → hex (xs ++ ys) ≡ hex xs ++ hex ys
 hex-append [] ys = refl
 hex-append (x ∷ xs) ys = rw (hex-append xs ys)
 

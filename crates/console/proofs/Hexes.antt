@@ -1,6 +1,6 @@
 -- Printed bytes, read again.
 -- Assumes nothing.
-use Rattle.std.proofs.Common.{◌≡◌, ℕ, zero, suc, ◌*◌, ◌/◌, ◌%◌, ◌^◌, ◌<◌, true, List, [], ◌∷◌, length, get_or, drop, refl, ap, ap₂, arith}
+use Rattle.std.proofs.Common.{◌≡◌, ℕ, zero, suc, ◌*◌, ◌/◌, ◌%◌, ◌^◌, ◌<◌, true, List, [], ◌∷◌, length, get_or, drop, refl, ap₂, arith}
 use Rattle.std.proofs.lemmas.Bool.Decides.{nat_tests}
 use Rattle.words.specs.Flips.{Bytes}
 use Rattle.console.specs.Decode.{digit_value, byte_of, decoded}
@@ -9,7 +9,7 @@ use Rattle.console.specs.Print.{hex_digit, hex}
 
 -- ---- digits
 
-pub value_below : (c : ℕ) → digit_value c < 16
+value_below : (c : ℕ) → digit_value c < 16
 value_below c = grind (arith, nat_tests)
 
 digit_good : (d : ℕ) → d < 16 → is_digit (hex_digit d) ≡ true
@@ -39,7 +39,7 @@ length-hex (b ∷ s) = let e = length-hex s in omega arith
 pub hex_good : (s : List ℕ) → Bytes s → good_digits (hex s) ≡ length (hex s)
 hex_good [] p = refl
 hex_good (b ∷ s) p =
-    rw (digit_good (b / 16) (omega (arith, p.0)), digit_good (b % 16) (omega arith)) (ap (λ n. suc (suc n)) (hex_good s p.1))
+    rw (digit_good (b / 16) (omega (arith, p.0)), digit_good (b % 16) (omega arith)) (omega (arith, hex_good s p.1))
 
 -- ---- bytes of bytes
 

@@ -1,6 +1,6 @@
 mod Digits
 mod Cuts
-mod Fronts
+mod Places
 mod Pairs
 mod Puts
 mod Sealing
@@ -9,4 +9,3 @@ mod Hexes
 mod Typed
 mod Saying
 mod Pledged
-pub mod Admitted

@@ -1,40 +1,37 @@
--- Two digits after the others.
+-- The bytes of pairs of digits.
 -- Assumes nothing.
-use Rattle.std.proofs.Common.{◌≡◌, ℕ, ◌+◌, ◌*◌, ◌<◌, ◌≤◌, List, [], ◌∷◌, ◌++◌, length, get_or, take, drop, set, sym, refl, ap, ◌∙◌, append_assoc, append-nil, arith, length-drop}
-use Rattle.std.proofs.lemmas.List.{drop_more, take_more_set}
+use Rattle.std.proofs.Common.{◌≡◌, ℕ, zero, suc, ◌+◌, ◌/◌, ◌<◌, List, [], ◌∷◌, ◌++◌, map, length, get_or, take, set, sym, refl, ap, ◌∙◌, ap₂, arith}
+use Rattle.std.proofs.lemmas.List.{take_more, take_more_set, take_all, get_or-map, length-map}
+use Rattle.std.specs.Simd.{first_chunks}
 use Rattle.console.specs.Decode.{byte_of, decoded}
 
--- the byte of the two digits at place 2 i
-pub pair_at_lem : (xs : List ℕ) (i : ℕ) → 2 * i + 1 < length xs
-    → decoded (drop (2 * i) xs) ≡ byte_of (get_or xs (2 * i) 0) (get_or xs (2 * i + 1) 0) ∷ decoded (drop (2 * (i + 1)) xs)
-pair_at_lem xs i l =
-    let e : 2 * i + 1 + 1 ≡ 2 * (i + 1) = omega arith in
-    ap decoded
-    (drop_more xs (2 * i) 0 (omega arith)
-    ∙ ap (λ t. get_or xs (2 * i) 0 ∷ t) (drop_more xs (2 * i + 1) 0 l)
-    ∙ ap (λ n. get_or xs (2 * i) 0 ∷ get_or xs (2 * i + 1) 0 ∷ drop n xs) e)
+-- a byte for every pair
+abbrev pub bytes_of : List (List ℕ) → List ℕ
+bytes_of pairs = map (λ p. byte_of (get_or p 0 0) (get_or p 1 0)) pairs
+
+by_pairs : (k : ℕ) (s : List ℕ) → k ≡ length s / 2 → bytes_of (first_chunks 2 k s) ≡ decoded s
+by_pairs zero [] e = refl
+by_pairs zero (a ∷ []) e = refl
+by_pairs zero (a ∷ b ∷ s) e = absurd (omega arith)
+by_pairs (suc k) [] e = absurd (omega arith)
+by_pairs (suc k) (a ∷ []) e = absurd (omega arith)
+by_pairs (suc k) (a ∷ b ∷ s) e = ap (λ t. byte_of a b ∷ t) (by_pairs k s (omega arith))
 
 -- one byte more
-pub turn : (xs buffer : List ℕ) (i v : ℕ) → 2 * i + 1 < length xs → i < length buffer
-    → v ≡ byte_of (get_or xs (2 * i) 0) (get_or xs (2 * i + 1) 0)
-    → take i buffer ++ decoded (drop (2 * i) xs) ≡ decoded xs
-    → take (i + 1) (set buffer i v) ++ decoded (drop (2 * (i + 1)) xs) ≡ decoded xs
-turn xs buffer i v l h e inv =
-    ap (λ t. t ++ decoded (drop (2 * (i + 1)) xs)) (take_more_set buffer i v h)
-    ∙ append_assoc (take i buffer) (v ∷ []) (decoded (drop (2 * (i + 1)) xs))
-    ∙ ap (λ b. take i buffer ++ b ∷ decoded (drop (2 * (i + 1)) xs)) e
-    ∙ ap (λ t. take i buffer ++ t) (sym (pair_at_lem xs i l))
-    ∙ inv
+pub turn : (pairs : List (List ℕ)) (buffer : List ℕ) (i v : ℕ) → i < length pairs → i < length buffer
+    → v ≡ byte_of (get_or (get_or pairs i []) 0 0) (get_or (get_or pairs i []) 1 0)
+    → take i buffer ≡ take i (bytes_of pairs) → take (i + 1) (set buffer i v) ≡ take (i + 1) (bytes_of pairs)
+turn pairs buffer i v l h e inv =
+    take_more_set buffer i v h
+    ∙ ap₂ (λ s b. s ++ b ∷ []) inv (e ∙ sym (get_or-map _ pairs i [] 0 l))
+    ∙ sym (take_more (bytes_of pairs) i 0 (rw (length-map pairs _) l))
 
--- half a byte is none
-few : (xs : List ℕ) → length xs ≤ 1 → decoded xs ≡ []
-few [] l = refl
-few (x ∷ []) l = refl
-few (x ∷ y ∷ xs) l = absurd (omega arith)
-
--- nothing is left
-pub ended : (xs done : List ℕ) (i : ℕ) → length xs ≤ 2 * i + 1 → done ++ decoded (drop (2 * i) xs) ≡ decoded xs → done ≡ decoded xs
-ended xs done i l inv =
-    sym (append-nil done)
-    ∙ ap (λ t. done ++ t) (sym (few (drop (2 * i) xs) (simp length-drop (omega arith))))
+-- in the end all of them
+pub whole : (pairs : List (List ℕ)) (buffer s : List ℕ) (i : ℕ) → pairs ≡ first_chunks 2 (length s / 2) s → i ≡ length pairs
+    → take i buffer ≡ take i (bytes_of pairs) → take (length pairs) buffer ≡ decoded s
+whole pairs buffer s i e n inv =
+    ap (λ k. take k buffer) (sym n)
     ∙ inv
+    ∙ take_all i (bytes_of pairs) (omega (arith, length-map pairs (λ p. byte_of (get_or p 0 0) (get_or p 1 0)), n))
+    ∙ ap bytes_of e
+    ∙ by_pairs (length s / 2) s refl

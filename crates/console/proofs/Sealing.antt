@@ -1,6 +1,6 @@
 -- What is shown of a seal, and how much take hands over.
 -- Assumes nothing.
-use Rattle.std.proofs.Common.{◌≡◌, ℕ, suc, ◌+◌, ◌-◌, ◌%◌, ◌≤◌, ◌&&◌, eqb, ltb, leb, List, ◌++◌, length, get_or, take, drop, IfOk, Ok, Err, Result, sym, refl, ap, ◌∙◌, subst, arith, length-drop, length-take, Bor}
+use Rattle.std.proofs.Common.{◌≡◌, ℕ, suc, ◌+◌, ◌-◌, ◌%◌, ◌≤◌, ◌&&◌, eqb, ltb, leb, List, length, get_or, take, drop, IfOk, Ok, Err, Result, sym, refl, ap, ◌∙◌, subst, arith, length-drop, length-take, Bor}
 use lib.ListN.{length-replicate}
 use Rattle.std.proofs.lemmas.List.{take_at}
 use Rattle.answer.specs.declared.fault.Fault.{Fault}
@@ -10,15 +10,14 @@ use Rattle.answer.specs.Rules.{then, need}
 use Rattle.code.specs.Model.{Asked, length_of, written}
 use Rattle.station.specs.declared.entry.Entry.{Entry}
 use Rattle.station.specs.Book.{PlainBook}
-use Rattle.station.specs.Fitting.{sealed_fitting}
-use Rattle.station.specs.Frame.{coded, ccitt, pair_at, entry_at, differ, alike, opened, taken}
+use Rattle.station.specs.Calls.{answer}
+use Rattle.station.specs.Frame.{coded, ccitt, pair_at, entry_at, differ, alike, sealed, opened, taken}
 use Rattle.station.specs.Layout.{layout}
 use Rattle.station.specs.Items.{seen}
-use Rattle.console.specs.Decode.{decoded}
-use Rattle.console.specs.Deeds.{deed, deed_of, blank}
-use Rattle.console.specs.Grammar.{PlainLine, message, line_of}
-use Rattle.console.specs.Printed.{printed_bytes, wrote_frame}
-use Rattle.console.specs.Transcript.{printed_fitting, book_after_line}
+use Rattle.console.specs.declared.line.Command.{Command}
+use Rattle.console.specs.declared.line.Command.TheVariants.{Message}
+use Rattle.console.specs.Deeds.{blank, call_by}
+use Rattle.console.specs.Printed.{printed_answer, printed_bytes, wrote_frame}
 
 -- ---- a seal
 
@@ -31,21 +30,13 @@ pub long : length blank ≡ 4112
 unfolding blank
 long = length-replicate {A = ℕ} 4112 0
 
--- What is printed of a message's line.
-pub sealing : (a : Asked) (n : ℕ) (b : PlainBook) (line d w v : List ℕ) (x : Result (List ℕ) Refusal)
-    → ◌≡◌ {A = Result PlainLine Refusal} (Ok (message d)) (line_of line)
-    → v ≡ w ++ printed_bytes n x → x ≡ sealed_fitting a b (get_or (decoded d) 0 0) (drop 1 (decoded d)) 4112
-    → v ≡ w ++ printed_fitting a n b (deed_of line)
-sealing a n b line d w v x e p q =
-    let by : ℕ → Result (List ℕ) Refusal = sealed_fitting a b (get_or (decoded d) 0 0) (drop 1 (decoded d)) in
-    p
-    ∙ ap (λ y. w ++ printed_bytes n y) (q ∙ sym (ap by long) ∙ sym (shown (by (length blank)) blank))
-    ∙ ap (λ l. w ++ printed_fitting a n b (deed l)) e
-
--- The book stays.
-pub keeping : (a : Asked) (b c : PlainBook) (line d : List ℕ)
-    → ◌≡◌ {A = Result PlainLine Refusal} (Ok (message d)) (line_of line) → c ≡ b → c ≡ book_after_line a b (deed_of line)
-keeping a b c line d e p = p ∙ ap (λ l. book_after_line a b (deed l)) e
+-- What is printed of it.
+pub sealing : (a : Asked) (n : ℕ) (b : PlainBook) (s : List ℕ) (c : Command) (x : Result (List ℕ) Refusal)
+    → c ≡ Message → x ≡ sealed a b (get_or s 0 0) (drop 1 s) 4112 → printed_bytes n x ≡ printed_answer n (answer a b (call_by c s))
+sealing a n b s c x e q =
+    let by : ℕ → Result (List ℕ) Refusal = sealed a b (get_or s 0 0) (drop 1 s) in
+    ap (printed_bytes n) (q ∙ sym (ap by long) ∙ sym (shown (by (length blank)) blank))
+    ∙ ap (λ k. printed_answer n (answer a b (call_by k s))) (sym e)
 
 -- ---- a take
 
@@ -85,7 +76,6 @@ within a b f =
     opened_short a e (take 10 (drop 2 f)) (drop 16 f) (length f) (simp length-drop (omega arith))))))))
 
 -- So it is with what is lent.
-pub lent : (r : Result (Bor (List ℕ)) Fault) (x : Result (List ℕ) Refusal) (n m : ℕ) → seen r ≡ x → IfOk x (λ s. length s ≤ n) → n ≤ m
-    → IfOk r (λ p. length p.now ≤ m)
-lent (Ok p) x n m e h l = let k : length p.now ≤ n = subst (λ y. IfOk y (λ s. length s ≤ n)) (sym e) h in omega arith
-lent (Err f) x n m e h l = tt
+pub lent : (r : Result (Bor (List ℕ)) Fault) (x : Result (List ℕ) Refusal) (n : ℕ) → seen r ≡ x → IfOk x (λ s. length s ≤ n) → IfOk r (λ p. length p.now ≤ n)
+lent (Ok p) x n e h = subst (λ y. IfOk y (λ s. length s ≤ n)) (sym e) h
+lent (Err f) x n e h = tt

@@ -1,12 +1,10 @@
 -- One line more of a transcript.
 -- Assumes nothing.
-use Rattle.std.proofs.Common.{◌≡◌, ℕ, suc, ◌+◌, ◌≤◌, List, ◌∷◌, ◌++◌, map, length, sym, refl, ap, ◌∙◌, ap₂, append_assoc, append-nil, add-one, arith}
-use Rattle.std.proofs.lemmas.List.{nil_from_length}
+use Rattle.std.proofs.Common.{◌≡◌, ℕ, suc, ◌+◌, List, [], ◌∷◌, ◌++◌, map, sym, refl, ap, ◌∙◌, ap₂, append_assoc, append-nil, add-one}
 use Rattle.code.specs.Model.{Asked}
 use Rattle.station.specs.Book.{PlainBook}
 use Rattle.station.specs.Calls.{answers_from}
 use Rattle.console.specs.Deeds.{Deed, nothing, refused, makes, deed_of}
-use Rattle.console.specs.Lines.{lines_of}
 use Rattle.console.specs.Transcript.{calls_of, printed, transcript_from, printed_of, book_after_line}
 
 -- The first line is printed, and then the others from the book after it on.
@@ -34,9 +32,6 @@ module _ (a : Asked) (n : ℕ) (b : PlainBook) (w total : List ℕ) where
       ∙ ap (λ ls. w ++ transcript_from a (suc n) b ls) (sym f)
       ∙ inv
 
-  -- In the end nothing is left.
-  pub ended : (rest : List ℕ) → length rest ≤ 0 → w ++ transcript_from a (suc n) b (lines_of rest) ≡ total → w ≡ total
-  ended rest l inv =
-      sym (append-nil w)
-      ∙ ap (λ s. w ++ transcript_from a (suc n) b (lines_of s)) (sym (nil_from_length rest (omega arith)))
-      ∙ inv
+  -- In the end no line is left.
+  pub ended : (lines : List (List ℕ)) → lines ≡ [] → w ++ transcript_from a (suc n) b lines ≡ total → w ≡ total
+  ended lines none inv = sym (append-nil w) ∙ ap (λ ls. w ++ transcript_from a (suc n) b ls) (sym none) ∙ inv

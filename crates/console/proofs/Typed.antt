@@ -4,11 +4,11 @@ use Rattle.std.proofs.Common.{ℕ, zero, suc, ◌+◌, ◌^◌, ◌<◌, List, [
 use Rattle.std.specs.List.{AllByRecursion}
 use Rattle.answer.specs.Refusal.{Refusal}
 use Rattle.words.specs.Flips.{Bytes}
+use Rattle.code.specs.Coded.{described_at, pair_at, quad_at}
 use Rattle.code.specs.Model.{Fits}
 use Rattle.station.specs.Calls.{Typed}
-use Rattle.station.specs.Frame.{pair_at}
 use Rattle.console.specs.Decode.{decoded}
-use Rattle.console.specs.Deeds.{quad_at, described_at, enters_by, seals_by, blank, Deed, nothing, refused, makes, deed, deed_of}
+use Rattle.console.specs.Deeds.{enters_by, seals_by, blank, Deed, nothing, refused, makes, deed, deed_of}
 use Rattle.console.specs.Grammar.{PlainLine, entry, narrowing, retirement, message, frame, remark, empty, line_of}
 use Rattle.console.specs.Transcript.{calls_of}
 use Rattle.console.proofs.Hexes.{decoded_bytes, byte_at, bytes_drop}
@@ -44,12 +44,12 @@ module _ (s : List ℕ) (p : Bytes s) where
   pub seal_typed : Typed (seals_by s)
   seal_typed = (byte_at s 0 p, bytes_drop 1 s p, blank_bytes)
 
-abbrev pub TypedDeed : Deed → Type 0
+abbrev TypedDeed : Deed → Type 0
 TypedDeed nothing = Unit {0}
 TypedDeed (refused r) = Unit {0}
 TypedDeed (makes c) = Typed c
 
-pub deed_typed : (x : Result PlainLine Refusal) → TypedDeed (deed x)
+deed_typed : (x : Result PlainLine Refusal) → TypedDeed (deed x)
 deed_typed (Ok (entry d)) = enter_typed (decoded d) (decoded_bytes d)
 deed_typed (Ok (narrowing d)) = (byte_at (decoded d) 0 (decoded_bytes d), pair_fits (decoded d) (decoded_bytes d) 1)
 deed_typed (Ok (retirement d)) = byte_at (decoded d) 0 (decoded_bytes d)

@@ -1,32 +1,18 @@
 -- What a line does: the call that it makes, if any.
 -- Assumes nothing.
-use Rattle.std.specs.Prelude.{ℕ, ◌+◌, ◌*◌, List, drop, replicate, Ok, Err, Result, slice_index}
+use Rattle.std.specs.Prelude.{ℕ, List, drop, replicate, Ok, Err, Result, slice_index}
 use Rattle.answer.specs.Refusal.{Refusal}
-use Rattle.code.specs.declared.description.Description.{Description}
+use Rattle.code.specs.Coded.{described_at, pair_at}
 use Rattle.station.specs.declared.entry.Entry.{Entry}
 use Rattle.station.specs.Book.{entry_of}
 use Rattle.station.specs.Calls as calls
 use Rattle.station.specs.Calls.{Call, change, ask, enter, narrow, retire}
-use Rattle.station.specs.Frame.{pair_at}
+use Rattle.console.specs.declared.line.Command.{Command}
+use Rattle.console.specs.declared.line.Command.TheVariants as named
 use Rattle.console.specs.Decode.{decoded}
 use Rattle.console.specs.Grammar.{PlainLine, line_of, entry, narrowing, retirement, message, frame, remark, empty}
 
 -- ---- the fields of a command
-
--- Four bytes of a string as a number.
-abbrev pub quad_at : List ℕ → ℕ → ℕ
-quad_at s i = pair_at s i * 65536 + pair_at s (i + 2)
-
--- The description in the ten bytes of a string from place i on, in the order of the head.
-abbrev pub described_at : List ℕ → ℕ → Description
-described_at s i = record {
-  kind = slice_index s i;
-  degree = slice_index s (i + 1);
-  low = quad_at s (i + 2);
-  degree2 = slice_index s (i + 6);
-  low2 = pair_at s (i + 7);
-  tuple = slice_index s (i + 9);
-}
 
 -- The entry in 13 bytes: number, description, reach.
 abbrev pub entry_in : List ℕ → Entry
@@ -63,6 +49,14 @@ seals_by s = ask (calls.seal (slice_index s 0) (drop 1 s) blank)
 -- F: the frame.
 abbrev pub takes_by : List ℕ → Call
 takes_by s = ask (calls.take s)
+
+-- The call of a command with given bytes.
+abbrev pub call_by : Command → List ℕ → Call
+call_by named.Entry s = enters_by s
+call_by named.Narrowing s = narrows_by s
+call_by named.Retirement s = retires_by s
+call_by named.Message s = seals_by s
+call_by named.Frame s = takes_by s
 
 -- What a line does, by what it is: a command makes its call, a remark and an empty line do nothing, and no other line is obeyed.
 abbrev pub deed : Result PlainLine Refusal → Deed

@@ -1,12 +1,15 @@
 -- What a line is, by its bytes.
 -- Assumes nothing.
-use Rattle.std.specs.Prelude.{ℕ, suc, ◌+◌, ◌/◌, ◌%◌, Bool, true, cond, ◌&&◌, ◌||◌, List, [], ◌∷◌, length, drop, Ok, Err, Result, ◌==◌, nat_le, nat_lt, slice_index}
+use Rattle.std.specs.Prelude.{◌≡◌, ℕ, ◌+◌, ◌/◌, ◌%◌, Bool, true, false, cond, not, ◌&&◌, ◌||◌, List, [], ◌∷◌, length, drop, Ok, Err, Result, MatchResult, ◌==◌, nat_le, nat_lt, slice_index}
+use Rattle.std.specs.List.{position_or_len}
 use Rattle.answer.specs.declared.fault.Fault.{Fault}
 use Rattle.answer.specs.declared.fault.Layer.TheVariants.{Line}
 use Rattle.answer.specs.Refusal.{Refusal, refusal, refusal_of}
 use Rattle.answer.specs.Rules.{Rule, rule, by_rules}
+use Rattle.console.specs.declared.line.Command.{Command}
+use Rattle.console.specs.declared.line.Command.TheVariants.{Entry, Narrowing, Retirement, Message, Frame}
 use Rattle.console.specs.declared.line.Line.{Line as Lent}
-use Rattle.console.specs.declared.line.Line.TheVariants.{Entry, Narrowing, Retirement, Message, Frame, Remark, Empty}
+use Rattle.console.specs.declared.line.Line.TheVariants as lent
 
 -- A line as a value: a command with its hexadecimal digits, a remark, or an empty line.
 pub data PlainLine : Type 0 where
@@ -18,15 +21,19 @@ pub data PlainLine : Type 0 where
   remark : PlainLine
   empty : PlainLine
 
+-- A command with its digits.
+abbrev pub plain : Command → List ℕ → PlainLine
+plain Entry d = entry d
+plain Narrowing d = narrowing d
+plain Retirement d = retirement d
+plain Message d = message d
+plain Frame d = frame d
+
 -- What the code lends, read as such a value.
 abbrev pub line_seen : Result Lent Fault → Result PlainLine Refusal
-line_seen (Ok (Entry d)) = Ok (entry d.now)
-line_seen (Ok (Narrowing d)) = Ok (narrowing d.now)
-line_seen (Ok (Retirement d)) = Ok (retirement d.now)
-line_seen (Ok (Message d)) = Ok (message d.now)
-line_seen (Ok (Frame d)) = Ok (frame d.now)
-line_seen (Ok Remark) = Ok remark
-line_seen (Ok Empty) = Ok empty
+line_seen (Ok (lent.Command c d)) = Ok (plain c d.now)
+line_seen (Ok lent.Remark) = Ok remark
+line_seen (Ok lent.Empty) = Ok empty
 line_seen (Err f) = Err (refusal_of f)
 
 -- ---- bytes
@@ -35,14 +42,25 @@ line_seen (Err f) = Err (refusal_of f)
 abbrev pub is_command : ℕ → Bool
 is_command c = c == 69 || c == 78 || c == 82 || c == 77 || c == 70
 
+-- The letter of a command.
+abbrev pub letter_of : Command → ℕ
+letter_of Entry = 69
+letter_of Narrowing = 78
+letter_of Retirement = 82
+letter_of Message = 77
+letter_of Frame = 70
+
+-- The result is the command with this letter, or the refusal of a letter that no command has.
+abbrev pub Names : ℕ → Result Command Fault → Type 0
+Names letter r = MatchResult r (λ command. letter_of command ≡ letter) (λ fault. (refusal_of fault ≡ refusal 1 Line 0) × (is_command letter ≡ false))
+
 -- 0 to 9 and A to F
 abbrev pub is_digit : ℕ → Bool
 is_digit b = (nat_le 48 b && nat_le b 57) || (nat_le 65 b && nat_le b 70)
 
 -- How many digits stand at the start: the place of the first byte that is none.
 abbrev pub good_digits : List ℕ → ℕ
-good_digits [] = 0
-good_digits (b ∷ bs) = cond (is_digit b) (suc (good_digits bs)) 0
+good_digits s = position_or_len (λ b. not (is_digit b)) s
 
 -- ---- commands
 

@@ -1,7 +1,9 @@
 -- What is printed of an answer.
 -- Assumes nothing.
-use Rattle.std.specs.Prelude.{ℕ, List, [], ◌∷◌, ◌++◌, take, Ok, Err, Result}
-use Rattle.answer.specs.Refusal.{Refusal}
+use Rattle.std.specs.Prelude.{ℕ, List, [], ◌∷◌, ◌++◌, take, Ok, Err, Some, None, Option, Result}
+use Rattle.std.specs.Borrow.{Bor}
+use Rattle.answer.specs.declared.fault.Fault.{Fault}
+use Rattle.answer.specs.Refusal.{Refusal, refusal_of}
 use Rattle.answer.specs.Rules.{then}
 use Rattle.station.specs.Calls.{Answer, done, wrote, handed, tried}
 use Rattle.console.specs.Print.{decimal, hex}
@@ -34,3 +36,9 @@ printed_answer n (done x) = printed_done n x
 printed_answer n (wrote x out) = printed_bytes n (wrote_frame x out)
 printed_answer n (handed x frame) = printed_bytes n x
 printed_answer n (tried x frame) = printed_done n x
+
+-- The line that is printed of what the code lends: nothing or bytes, or a refusal.
+abbrev pub printed_lent : ℕ → Result (Option (Bor (List ℕ))) Fault → List ℕ
+printed_lent n (Ok None) = printed_line n 0 []
+printed_lent n (Ok (Some bytes)) = printed_line n 0 (32 ∷ hex bytes.now)
+printed_lent n (Err fault) = printed_refusal n (refusal_of fault)

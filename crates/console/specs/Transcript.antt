@@ -4,7 +4,6 @@ use Rattle.std.specs.Prelude.{ℕ, suc, List, [], ◌∷◌, ◌++◌, map}
 use Rattle.code.specs.Model.{Asked}
 use Rattle.station.specs.Book.{PlainBook, empty_book}
 use Rattle.station.specs.Calls.{Call, Answer, answer, step, answers_from}
-use Rattle.station.specs.Fitting.{answer_fitting}
 use Rattle.console.specs.Deeds.{Deed, nothing, refused, makes, deed_of}
 use Rattle.console.specs.Lines.{lines_of}
 use Rattle.console.specs.Printed.{printed_refusal, printed_answer}
@@ -42,12 +41,6 @@ abbrev pub printed_of : Asked → ℕ → PlainBook → Deed → List ℕ
 printed_of a n b nothing = []
 printed_of a n b (refused r) = printed_refusal n r
 printed_of a n b (makes c) = printed_answer n (answer a b c)
-
--- .. where not every entry of the book needs to be admitted
-abbrev pub printed_fitting : Asked → ℕ → PlainBook → Deed → List ℕ
-printed_fitting a n b nothing = []
-printed_fitting a n b (refused r) = printed_refusal n r
-printed_fitting a n b (makes c) = printed_answer n (answer_fitting a b c)
 
 -- The book after a line.
 abbrev pub book_after_line : Asked → PlainBook → Deed → PlainBook

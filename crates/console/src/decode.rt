@@ -1,10 +1,11 @@
 // Hexadecimal digits as bytes.
-ghost use Rattle.std.specs.Prelude.{◌≡◌, ◌/◌, ◌<◌, ◌≤◌, length, take};
+ghost use Rattle.std.specs.Prelude.{◌≡◌, ◌/◌, ◌<◌, ◌≤◌, length};
 ghost use Rattle.console.specs.Decode.{digit_value, decoded};
 
 // Bytes of the longest frame.
 pub(crate) const LONGEST: usize = 4112;
 
+// The library's `to_digit` takes lower case too.
 fn digit_value(c: u8) -> u8
     ensures value { result ≡ digit_value c }
     ensures bound { result < 16 }
@@ -16,15 +17,16 @@ fn digit_value(c: u8) -> u8
     }
 }
 
-// Puts the bytes of the digits at the start of the buffer, and answers how many they are.
-pub(crate) fn decode(digits: &[u8], buffer: &mut [u8; LONGEST]) -> usize
+// Puts the bytes of the digits at the start of the buffer, and lends them.
+// (An index, since nothing is known of what a loop over a `zip` with `iter_mut` writes.)
+pub(crate) fn decode<'b>(digits: &[u8], buffer: &'b mut [u8; LONGEST]) -> &'b [u8]
     requires { length digits.now ≤ 8224 }
-    ensures bytes { take result buffer.new ≡ decoded digits.now }
-    ensures len { result ≡ length digits.now / 2 }
+    ensures bytes { result.now ≡ decoded digits.now }
+    ensures len { length result.now ≡ length digits.now / 2 }
 {
-    let n = digits.len() / 2;
-    for i in 0..n {
-        buffer[i] = 16 * digit_value(digits[2 * i]) + digit_value(digits[2 * i + 1]);
+    let (pairs, _) = digits.as_chunks::<2>();
+    for (i, [high, low]) in pairs.iter().enumerate() {
+        buffer[i] = 16 * digit_value(*high) + digit_value(*low);
     }
-    n
+    &buffer[..pairs.len()]
 }

@@ -4,7 +4,6 @@
 mod answers;
 pub mod console;
 mod decode;
-mod fields;
 pub mod line;
 mod lines;
 mod orders;

@@ -1,29 +1,47 @@
 // What a line is: its command and its digits, which stay where they are in the line.
-ghost use Rattle.std.specs.Prelude.{◌≡◌, ◌+◌, ◌%◌, ◌≤◌, true, length, IfOk};
-ghost use Rattle.console.specs.Grammar.{is_digit, is_command, good_digits, counted_of, command_of, line_of, line_seen};
+ghost use Rattle.std.specs.Prelude.{◌≡◌, ◌+◌, ◌%◌, ◌≤◌, length, IfOk};
+ghost use Rattle.console.specs.Grammar.{is_digit, Names, letter_of, good_digits, counted_of, command_of, line_of, line_seen};
 ghost use Rattle.console.specs.Sized.{Sized};
 
+use crate::decode::LONGEST;
 use answer::fault::Fault;
 
 // The longest line: a letter, a space and two digits for each byte of the longest frame.
-const LIMIT: usize = 8226;
+const LIMIT: usize = 2 + 2 * LONGEST;
+
+// A command, which a line names by its letter.
+#[derive(Clone, Copy, Debug, PartialEq, Eq)]
+pub enum Command {
+    Entry,
+    Narrowing,
+    Retirement,
+    Message,
+    Frame,
+}
+
+impl TryFrom<u8> for Command {
+    type Error = Fault;
+
+    ghost try_from_gives = { Names };
+
+    fn try_from(letter: u8) -> Result<Command, Fault> {
+        match letter {
+            b'E' => Ok(Command::Entry),
+            b'N' => Ok(Command::Narrowing),
+            b'R' => Ok(Command::Retirement),
+            b'M' => Ok(Command::Message),
+            b'F' => Ok(Command::Frame),
+            _ => Err(Fault::Command),
+        }
+    }
+}
 
 // A line: a command with its hexadecimal digits, or one that does nothing.
 #[derive(Drop)]
 pub enum Line<'a> {
-    Entry(&'a [u8]),
-    Narrowing(&'a [u8]),
-    Retirement(&'a [u8]),
-    Message(&'a [u8]),
-    Frame(&'a [u8]),
+    Command(Command, &'a [u8]),
     Remark,
     Empty,
-}
-
-fn is_command(letter: u8) -> bool
-    ensures { result ≡ is_command letter }
-{
-    matches!(letter, b'E' | b'N' | b'R' | b'M' | b'F')
 }
 
 fn is_digit(b: u8) -> bool
@@ -37,35 +55,32 @@ fn digits_at_start(bytes: &[u8]) -> usize
     ensures value { result ≡ good_digits bytes.now }
     ensures bound { result ≤ length bytes.now }
 {
-    for (i, b) in bytes.iter().enumerate() {
-        if !is_digit(*b) {
-            return i;
-        }
-    }
-    bytes.len()
+    bytes
+        .iter()
+        .position(|b| !is_digit(*b))
+        .unwrap_or(bytes.len())
 }
 
 // A command with good digits, where they make the right number of bytes.
-fn counted(letter: u8, digits: &[u8], len: usize) -> Result<Line<'_>, Fault>
-    requires { (is_command letter ≡ true) × ((length digits.now ≤ 8224) × (length digits.now % 2 ≡ 0)) }
-    ensures line { line_seen result ≡ counted_of letter digits.now len }
+fn counted(command: Command, digits: &[u8], len: usize) -> Result<Line<'_>, Fault>
+    requires { (length digits.now ≤ 8224) × (length digits.now % 2 ≡ 0) }
+    ensures line { line_seen result ≡ counted_of (letter_of command) digits.now len }
     ensures sized { IfOk result Sized }
 {
-    match (letter, digits.len() / 2) {
-        (b'E', 13) => Ok(Line::Entry(digits)),
-        (b'N', 3) => Ok(Line::Narrowing(digits)),
-        (b'R', 1) => Ok(Line::Retirement(digits)),
-        (b'M', 0) => Err(Fault::Operands(len)),
-        (b'M', _) => Ok(Line::Message(digits)),
-        (b'F', _) => Ok(Line::Frame(digits)),
+    match (command, digits.len() / 2) {
+        (Command::Entry, 13)
+        | (Command::Narrowing, 3)
+        | (Command::Retirement, 1)
+        | (Command::Message, 1..)
+        | (Command::Frame, _) => Ok(Line::Command(command, digits)),
         _ => Err(Fault::Operands(len)),
     }
 }
 
 // A command's line of `len` bytes, by what stands after its letter and its space.
-fn command_of(letter: u8, digits: &[u8], len: usize) -> Result<Line<'_>, Fault>
-    requires { (is_command letter ≡ true) × (length digits.now ≤ 8224) }
-    ensures line { line_seen result ≡ command_of letter digits.now len }
+fn command_of(command: Command, digits: &[u8], len: usize) -> Result<Line<'_>, Fault>
+    requires { length digits.now ≤ 8224 }
+    ensures line { line_seen result ≡ command_of (letter_of command) digits.now len }
     ensures sized { IfOk result Sized }
 {
     let good = digits_at_start(digits);
@@ -75,7 +90,7 @@ fn command_of(letter: u8, digits: &[u8], len: usize) -> Result<Line<'_>, Fault>
     if digits.len() % 2 != 0 {
         return Err(Fault::Digit(len));
     }
-    counted(letter, digits, len)
+    counted(command, digits, len)
 }
 
 // What a line is, or the refusal of the first rule that it breaks.
@@ -87,8 +102,12 @@ pub fn line_of(line: &[u8]) -> Result<Line<'_>, Fault>
         [] => Ok(Line::Empty),
         [b'#', ..] => Ok(Line::Remark),
         _ if line.len() > LIMIT => Err(Fault::LineLimit(LIMIT)),
-        [letter, ..] if !is_command(*letter) => Err(Fault::Command),
-        [letter, b' ', digits @ ..] => command_of(*letter, digits, line.len()),
-        _ => Err(Fault::Digit(1)),
+        [letter, rest @ ..] => {
+            let command = Command::try_from(*letter)?;
+            match rest {
+                [b' ', digits @ ..] => command_of(command, digits, line.len()),
+                _ => Err(Fault::Digit(1)),
+            }
+        }
     }
 }

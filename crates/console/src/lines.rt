@@ -1,43 +1,39 @@
 // The lines of an input, one by one.
-ghost use Rattle.std.specs.Prelude.{◌≡◌, ℕ, ◌<◌, ◌≤◌, ◌∷◌, length, ◌≢◌, slice_index};
+ghost use Rattle.std.specs.Prelude.{◌≡◌, ◌<◌, ◌∷◌, length};
+ghost use Rattle.std.specs.Iterator.{YieldsFirstRef, item_count};
 ghost use Rattle.console.specs.Lines.{lines_of};
 
 // What ends a line.
 const BREAK: u8 = 0x0A;
 
-// How long the first line is.
-fn line_length(input: &[u8]) -> usize
-    ensures within { result ≤ length input.now }
-    ensures before { (k : ℕ) → k < result → slice_index input.now k ≢ 10 }
-    ensures found { result < length input.now → slice_index input.now result ≡ 10 }
-{
-    for (i, b) in input.iter().enumerate() {
-        if *b == BREAK {
-            return i;
+// The lines of what is left of an input. (A `for` over the library's `split_inclusive` has no proof in a generic function: antt refuses its type.)
+#[derive(Drop)]
+pub(crate) struct Lines<'a>(pub(crate) &'a [u8]);
+
+impl<'a> Iterator for Lines<'a> {
+    type Item = &'a [u8];
+
+    ghost next_gives = { YieldsFirstRef (λ s. lines_of s.0.now) };
+
+    ghost remaining = { item_count (λ s. lines_of s.0.now) };
+
+    fn next(&mut self) -> Option<&'a [u8]> {
+        if self.0.is_empty() {
+            return None;
         }
+        let (line, rest) = cut(self.0);
+        self.0 = rest;
+        Some(line)
     }
-    input.len()
 }
 
 // The first line, and the input after it and its 0A.
-pub(crate) struct Cut<'a> {
-    pub(crate) line: &'a [u8],
-    pub(crate) rest: &'a [u8],
-}
-
-pub(crate) fn cut_line(input: &[u8]) -> Cut<'_>
+fn cut(input: &[u8]) -> (&[u8], &[u8])
     requires { 0 < length input.now }
-    ensures lines { lines_of input.now ≡ result.line.now ∷ lines_of result.rest.now }
-    ensures less { length result.rest.now < length input.now }
+    ensures { lines_of input.now ≡ result.0.now ∷ lines_of result.1.now }
 {
-    let n = line_length(input);
-    let line = &input[0..n];
-    if n < input.len() {
-        Cut {
-            line,
-            rest: &input[n + 1..],
-        }
-    } else {
-        Cut { line, rest: &[] }
+    match input.iter().position(|b| *b == BREAK) {
+        Some(i) => (&input[..i], &input[i + 1..]),
+        None => (input, &[]),
     }
 }

@@ -1,2 +1,3 @@
 pub mod Fitted
 pub mod Started
+pub mod Parity

@@ -1,10 +1,11 @@
-// What kind 1 admits: a description and a reach, with the facts that its law uses.
+// What a kind over an engine admits: a description and a reach, with the facts that its law uses. A generator instead of the first two
+// facts would hold the same numbers once more beside the description.
 ghost use Rattle.std.specs.Prelude.{◌≡◌, ◌*◌, ◌%◌, ◌^◌, ◌<◌, ◌≤◌};
 ghost use Rattle.poly.specs.Period.{NoReturn};
 
 use code::description::Description;
 
-#[derive(Clone, Copy)]
+#[derive(Clone, Copy, PartialEq, Eq, Debug)]
 pub struct AdmittedCrc {
     pub(crate) description: Description,
     pub(crate) reach: u16,

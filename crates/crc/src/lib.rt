@@ -2,7 +2,7 @@
 #![tactic(auto)]
 
 pub mod admitted_crc;
-pub mod crc_asked;
 pub mod crc_kind;
-pub mod parity_asked;
+mod form;
+pub mod over_engine;
 pub mod parity_kind;

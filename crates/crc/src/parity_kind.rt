@@ -1,79 +1,52 @@
-// Kind 2, the CRC with parity, over any engine: what it asks of a description.
-ghost use Rattle.std.specs.Prelude.{◌≡◌, ℕ, ◌+◌, ◌*◌, ◌%◌, ◌^◌, ◌<◌, OnOk, count_ones};
-ghost use Rattle.answer.specs.Refusal.{read};
-ghost use Rattle.answer.specs.Rules.{by_rules};
-ghost use Rattle.poly.specs.Poly.{polynomial};
-ghost use Rattle.code.specs.Model.{described_rules};
-ghost use Rattle.code.specs.ParityModel.{parity_asks, parity_model};
+// Kind 2, the CRC with parity, over any engine: the check is the remainder, and one bit that makes the ones of the word even in number.
+ghost use Rattle.code.proofs.ParityLaws.{parity_keeps};
+ghost use Rattle.crc.specs.Form.{parity_form};
 
-use crate::crc_kind::{even_terms, one_generator};
+use crate::form::Form;
+use crate::over_engine::{OverEngine, check_bytes};
 use answer::fault::Fault;
-use code::description::Description;
-use code::fields::proper_low;
-use engine::engine::Engine;
+use code::bytes::sum;
+use code::description::Sheet;
+use poly::generator::Generator;
 
-#[derive(Drop)]
-pub struct CrcParity<E> {
-    pub(crate) engine: E,
-}
+pub type CrcParity<E> = OverEngine<E, WithParity>;
 
-// What kind 2 asks of a description before the engine is asked.
-fn fields(d: Description) -> Result<(), Fault>
-    ensures { read result ≡ by_rules (parity_asks d) tt }
-{
-    if d.kind != 2 {
-        return Err(Fault::Unserved);
-    }
-    if d.degree != 15 && d.degree != 23 && d.degree != 31 {
-        return Err(Fault::KindField(3));
-    }
-    one_generator(d)?;
-    if !proper_low(d.degree, d.low) {
-        return Err(Fault::KindLow(4));
-    }
-    if even_terms(d.degree, d.low) {
-        return Err(Fault::Terms(4));
-    }
-    Ok(())
-}
+// The check with a bit of parity.
+pub struct WithParity;
 
-// The ones of a message, modulo 2.
-pub(crate) fn parity(message: &[u8]) -> u32
-    ensures { result ≡ count_ones (polynomial message.now) % 2 }
-{
-    let mut sum = 0u8;
-    for b in message {
-        sum ^= *b;
-    }
-    sum.count_ones() % 2
-}
+impl Form for WithParity {
+    ghost form = { parity_form };
 
-// A remainder, and then the bit that makes the ones of the message and of the remainder even in number.
-pub(crate) fn with_parity(r: u32, message: &[u8]) -> u32
-    requires { r < 2 ^ 31 }
-    ensures { result ≡ r * 2 + (count_ones (polynomial message.now) + count_ones r) % 2 }
-{
-    let bit = (parity(message) + r.count_ones() % 2) % 2;
-    r * 2 + bit
-}
+    ghost keeps = { parity_keeps };
 
-impl<E: Engine> CrcParity<E> {
-    // Kind 2 over this engine.
-    pub fn new(engine: E) -> CrcParity<E>
-        ensures { result.engine ≡ engine }
-    {
-        CrcParity { engine }
+    fn serves(kind: u8) -> bool {
+        kind == 2
     }
 
-    // Asks all of a description; then the engine has its generator, and a register of zero.
-    pub(crate) fn fit(&mut self, d: Description) -> Result<(), Fault>
-        ensures answer { read result ≡ by_rules (described_rules (parity_model (E.carries_of self.old.engine)) d) tt }
-        ensures carries { E.carries_of self.new.engine ≡ E.carries_of self.old.engine }
-        ensures degree { OnOk result (E.degree_of self.new.engine ≡ d.degree) }
-        ensures low { OnOk result (E.low_of self.new.engine ≡ d.low) }
-        ensures register { OnOk result (E.register_of self.new.engine ≡ 0) }
-    {
-        fields(d)?;
-        self.engine.set(d.degree, d.low)
+    fn takes(degree: u8) -> bool {
+        matches!(degree, 15 | 23 | 31)
+    }
+
+    fn terms(generator: Generator) -> Result<(), Fault> {
+        if generator.terms() % 2 == 0 {
+            return Err(Fault::Terms(4));
+        }
+        Ok(())
+    }
+
+    fn sheet(generator: Generator) -> Sheet {
+        Sheet {
+            check: check_bytes(generator.degree()),
+            tuple: 1,
+            burst: u16::from(generator.degree()) + 1,
+            few: 3,
+            odd: true,
+        }
+    }
+
+    // The remainder, and then a bit by the ones of the message and of the remainder. The sum of the bytes has as many ones, modulo 2, as they.
+    fn number(_: Generator, r: u32, message: &[u8]) -> u32 {
+        let ones = sum(message).count_ones() + r.count_ones();
+        r * 2 + ones % 2
     }
 }

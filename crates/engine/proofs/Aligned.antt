@@ -1,6 +1,6 @@
 -- A generator moved up by s places, which is X^s times it: every remainder is moved up with it.
 -- Assumes nothing.
-use Rattle.std.proofs.Common.{◌≡◌, ℕ, ◌+◌, ◌-◌, ◌*◌, ◌/◌, ◌^◌, ◌<◌, ◌≤◌, List, [], ◌∷◌, sym, refl, ap, ◌∙◌, ap₂, mul_assoc, arith, pow-add}
+use Rattle.std.proofs.Common.{◌≡◌, ℕ, ◌+◌, ◌-◌, ◌*◌, ◌/◌, ◌^◌, ◌<◌, ◌≤◌, List, [], ◌∷◌, sym, refl, ap, ◌∙◌, subst, ap₂, mul_assoc, arith, pow-add, shl_lt, shr_lt}
 use lib.Pow.{shl-shr}
 use lib.Bits.{bit_xor}
 use Rattle.poly.specs.Poly.{rem}
@@ -38,3 +38,15 @@ fed_at_top h most low r x bs small ex =
     let e : 32 ≡ h + s = omega arith in
     ap (λ y. y / 2 ^ s) (ex ∙ ap (λ n. fed_all n (low * 2 ^ s) (r * 2 ^ s) bs) e ∙ fed_all_aligned h s low small r bs)
     ∙ shl-shr (fed_all h low r bs) s
+
+-- what comes back from the top has h bits; d is the degree as the code has it
+pub back_lt : (h : ℕ) → h ≤ 32 → (d x : ℕ) → d ≡ h → x < 2 ^ 32 → x / 2 ^ (32 - d) < 2 ^ h
+back_lt h most d x ed l =
+    let e : 32 ≡ h + (32 - h) = omega arith in
+    subst (λ d. x / 2 ^ (32 - d) < 2 ^ h) (sym ed) (shr_lt h (32 - h) (subst (λ n. x < 2 ^ n) e l))
+
+-- the low part moved to the top has 32 bits
+pub up_lt : (h : ℕ) → h ≤ 32 → (low : ℕ) → low < 2 ^ h → low * 2 ^ (32 - h) < 2 ^ 32
+up_lt h most low small =
+    let e : h + (32 - h) ≡ 32 = omega arith in
+    subst (λ n. low * 2 ^ (32 - h) < 2 ^ n) e (shl_lt h (32 - h) small)

@@ -5,15 +5,15 @@ ghost use Rattle.std.proofs.Common.{rules, arith};
 
 use crate::bitwise::Bitwise;
 use crate::engine::Engine;
-use crate::stepping::{feed_bits, generator_of, least};
+use crate::register::Register;
 use answer::fault::Fault;
 
 impl Engine for Bitwise {
-    ghost degree_of = { λ e. e.generator.degree };
+    ghost degree_of = { λ e. e.register.generator.degree };
 
-    ghost low_of = { λ e. e.generator.low };
+    ghost low_of = { λ e. e.register.generator.low };
 
-    ghost register_of = { λ e. e.register };
+    ghost register_of = { λ e. e.register.value };
 
     ghost carries_of = { λ _. carries_all };
 
@@ -21,31 +21,28 @@ impl Engine for Bitwise {
 
     // X^8 + 1
     fn new() -> Self
-        ensures register { result.register ≡ 0 }
-        ensures degree { result.generator.degree ≡ 8 }
-        ensures low { result.generator.low ≡ 1 }
+        ensures register { result.register.value ≡ 0 }
+        ensures degree { result.register.generator.degree ≡ 8 }
+        ensures low { result.register.generator.low ≡ 1 }
     {
         Bitwise {
-            generator: least(),
-            register: 0,
+            register: Register::new(),
         }
     }
 
     fn set(&mut self, degree: u8, low: u32) -> Result<(), Fault> {
-        self.generator = generator_of(degree, low)?;
-        self.register = 0;
-        Ok(())
+        self.register.set(degree, low)
     }
 
     fn clear(&mut self) {
-        self.register = 0;
+        self.register.clear();
     }
 
     fn feed(&mut self, q: u8) {
-        self.register = feed_bits(self.generator, self.register, q);
+        self.register.feed_bits(q);
     }
 
     fn value(&self) -> u32 {
-        self.register
+        self.register.value()
     }
 }

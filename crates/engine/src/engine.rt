@@ -1,4 +1,5 @@
 // What every engine does. An engine means a degree, a low part and a register; what it carries is fixed.
+// The engines are no instances of one generic struct: for the C interface a type has no parameters, and with a Register each call is a line.
 ghost use Rattle.std.specs.Prelude.{◌≡◌, ℕ, Bool};
 ghost use Rattle.answer.specs.Refusal.{read, if_ok};
 ghost use Rattle.answer.specs.Rules.{by_rules};

@@ -5,16 +5,15 @@ ghost use Rattle.std.proofs.Common.{rules, arith};
 
 use crate::engine::Engine;
 use crate::fast::Fast;
-use crate::product::multiply;
-use crate::stepping::{generator_of, least};
+use crate::register::Register;
 use answer::fault::Fault;
 
 impl Engine for Fast {
-    ghost degree_of = { λ e. e.generator.degree };
+    ghost degree_of = { λ e. e.register.generator.degree };
 
-    ghost low_of = { λ e. e.generator.low };
+    ghost low_of = { λ e. e.register.generator.low };
 
-    ghost register_of = { λ e. e.register };
+    ghost register_of = { λ e. e.register.value };
 
     ghost carries_of = { λ _. carries_short };
 
@@ -22,35 +21,34 @@ impl Engine for Fast {
 
     // X^8 + 1
     fn new() -> Self
-        ensures register { result.register ≡ 0 }
-        ensures degree { result.generator.degree ≡ 8 }
-        ensures low { result.generator.low ≡ 1 }
+        ensures register { result.register.value ≡ 0 }
+        ensures degree { result.register.generator.degree ≡ 8 }
+        ensures low { result.register.generator.low ≡ 1 }
     {
         Fast {
-            generator: least(),
-            register: 0,
+            register: Register::new(),
         }
     }
 
     fn set(&mut self, degree: u8, low: u32) -> Result<(), Fault> {
-        let generator = generator_of(degree, low)?;
+        let mut register = self.register;
+        register.set(degree, low)?;
         if low >> (degree - 7) != 0 {
             return Err(Fault::NotCarried);
         }
-        self.generator = generator;
-        self.register = 0;
+        self.register = register;
         Ok(())
     }
 
     fn clear(&mut self) {
-        self.register = 0;
+        self.register.clear();
     }
 
     fn feed(&mut self, q: u8) {
-        self.register = multiply(self.generator, self.register, q);
+        self.register.multiply(q);
     }
 
     fn value(&self) -> u32 {
-        self.register
+        self.register.value()
     }
 }

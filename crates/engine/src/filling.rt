@@ -9,6 +9,7 @@ use poly::long_division::twice_at_top;
 // The first 2^rounds entries, entry a the remainder of a × first, with everything moved `up` places, the generator too: the upper
 // half of each power of two from the lower by a sum. Answers what would come at 2^rounds, not moved. On the way it stands at the
 // top of 32 bits.
+// By index: a zip over `iter_mut` was tried, and `loop-k-preserved` did not close: nothing is known there of the entries written.
 fn double(entries: &mut [u32], generator: Generator, first: u32, rounds: u8, up: u8) -> u32
     requires { (rounds ≤ 8) × ((2 ^ rounds ≤ length entries.old) × ((generator.degree + up ≤ 32) × (first < 2 ^ generator.degree))) }
     ensures next { result ≡ rem generator.degree generator.low (first * 2 ^ rounds) }
@@ -29,6 +30,7 @@ fn double(entries: &mut [u32], generator: Generator, first: u32, rounds: u8, up:
 }
 
 // The other seven rows of 32 entries: each is the first row plus the row's head.
+// By index: of `as_chunks_mut` and `chunks_exact_mut` nothing is known of the entries written, so `returns` would not close.
 fn spread(entries: &mut [u32; 256], heads: &[u32; 8])
     ensures first { (c : ℕ) → c < 32 → slice_index entries.new c ≡ slice_index entries.old c }
     ensures rows { (c r : ℕ) → c < 32 → 1 ≤ r → r < 8 → slice_index entries.new (32 * r + c) ≡ bit_xor (slice_index heads.now r) (slice_index entries.old c) }

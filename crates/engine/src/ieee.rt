@@ -50,8 +50,5 @@ pub(crate) fn ieee() -> Generator
     ensures degree { result.degree ≡ 32 }
     ensures low { result.low ≡ 0x04C11DB7 }
 {
-    match Generator::new(32, 0x04C1_1DB7) {
-        Ok(generator) => generator,
-        Err(_) => unreachable(),
-    }
+    Generator::new(32, 0x04C1_1DB7).unwrap()
 }

@@ -12,6 +12,7 @@ mod look_up;
 mod product;
 pub mod ready_made;
 pub mod ready_made_engine;
+pub mod register;
 pub mod remainder;
 pub mod running;
 pub mod stepping;

@@ -5,10 +5,24 @@ ghost use Rattle.std.proofs.Common.{rules, arith};
 
 use crate::engine::Engine;
 use crate::ieee::{ieee, numbers};
-use crate::look_up::{look_up, look_up_all};
 use crate::ready_made::ReadyMade;
+use crate::register::Register;
 use crate::stepping::generator_of;
 use answer::fault::Fault;
+
+impl ReadyMade {
+    // The register with the generator, which the engine does not store.
+    fn with_generator(self) -> Register
+        ensures degree { result.generator.degree ≡ 32 }
+        ensures low { result.generator.low ≡ 0x04C11DB7 }
+        ensures value { result.value ≡ self.register }
+    {
+        Register {
+            generator: ieee(),
+            value: self.register,
+        }
+    }
+}
 
 impl Engine for ReadyMade {
     ghost degree_of = { λ _. 32 };
@@ -26,8 +40,7 @@ impl Engine for ReadyMade {
     }
 
     fn set(&mut self, degree: u8, low: u32) -> Result<(), Fault> {
-        let generator = generator_of(degree, low)?;
-        if generator.degree() != 32 || generator.low() != 0x04C1_1DB7 {
+        if generator_of(degree, low)? != ieee() {
             return Err(Fault::NotCarried);
         }
         self.register = 0;
@@ -39,7 +52,9 @@ impl Engine for ReadyMade {
     }
 
     fn feed(&mut self, q: u8) {
-        self.register = look_up(numbers(), ieee(), self.register, q);
+        let mut register = self.with_generator();
+        register.look_up(numbers(), q);
+        self.register = register.value();
     }
 
     fn value(&self) -> u32 {
@@ -47,6 +62,8 @@ impl Engine for ReadyMade {
     }
 
     fn feed_all(&mut self, bytes: &[u8]) {
-        self.register = look_up_all(numbers(), ieee(), self.register, bytes);
+        let mut register = self.with_generator();
+        register.look_up_all(numbers(), bytes);
+        self.register = register.value();
     }
 }

@@ -1,9 +1,10 @@
-// What the engines share: the generators that set accepts, the byte at the top of the register, and the register moved up.
+// What the engines share: the generators that set accepts, and the steps of a register.
 ghost use Rattle.std.specs.Prelude.{◌≡◌, ℕ, ◌-◌, ◌*◌, ◌/◌, ◌%◌, ◌^◌, ◌<◌, ◌≤◌, bit_xor};
 ghost use Rattle.answer.specs.Rules.{by_rules};
 ghost use Rattle.poly.specs.Rules.{generator_rules, pair, seen};
 ghost use Rattle.engine.specs.Feed.{fed};
 
+use crate::register::Register;
 use answer::fault::Fault;
 use poly::generator::Generator;
 
@@ -17,47 +18,36 @@ pub fn generator_of(degree: u8, low: u32) -> Result<Generator, Fault>
     Generator::new(degree, low)
 }
 
-// The byte q goes to the top of the register, which is then multiplied by X eight times.
-pub(crate) fn feed_bits(generator: Generator, register: u32, q: u8) -> u32
-    requires { (8 ≤ generator.degree) × (register < 2 ^ generator.degree) }
-    ensures fed { result ≡ fed generator.degree generator.low register q }
-    ensures below { result < 2 ^ generator.degree }
-{
-    generator.remainder(register ^ (u32::from(q) << (generator.degree() - 8)), 8)
-}
-
 // X^8 + 1, what a new engine holds.
 pub fn least() -> Generator
     ensures degree { result.degree ≡ 8 }
     ensures low { result.low ≡ 1 }
 {
-    match Generator::new(8, 1) {
-        Ok(generator) => generator,
-        Err(_) => unreachable(),
+    Generator::new(8, 1).unwrap()
+}
+
+impl Register {
+    // The byte q goes to the top of the value, which is then multiplied by X eight times.
+    pub(crate) fn feed_bits(&mut self, q: u8)
+        ensures generator { self.new.generator ≡ self.old.generator }
+        ensures fed { self.new.value ≡ fed self.old.generator.degree self.old.generator.low self.old.value q }
+    {
+        let top = u32::from(q) << (self.generator.degree() - 8);
+        self.value = self.generator.remainder(self.value ^ top, 8);
     }
-}
 
-// The top byte of the register, plus q.
-pub(crate) fn top_byte(degree: u8, register: u32, q: u8) -> u8
-    requires { (8 ≤ degree) × ((degree ≤ 32) × (register < 2 ^ degree)) }
-    ensures { result ≡ bit_xor (register / 2 ^ (degree - 8)) q }
-{
-    (register >> (degree - 8)) as u8 ^ q
-}
+    // The top byte of the value, plus q. It is not cut to a byte on the way, which every look-up would wait for.
+    pub(crate) fn top_byte(self, q: u8) -> u32
+        ensures byte { result ≡ bit_xor (self.value / 2 ^ (self.generator.degree - 8)) q }
+        ensures below { result < 256 }
+    {
+        (self.value >> (self.generator.degree() - 8)) ^ u32::from(q)
+    }
 
-// The same as the index of an entry. It is not cut to a byte on the way, which every look-up would wait for.
-pub(crate) fn top_index(degree: u8, register: u32, q: u8) -> usize
-    requires { (8 ≤ degree) × ((degree ≤ 32) × (register < 2 ^ degree)) }
-    ensures index { result ≡ bit_xor (register / 2 ^ (degree - 8)) q }
-    ensures below { result < 256 }
-{
-    (register >> (degree - 8)) as usize ^ usize::from(q)
-}
-
-// The register times X^8, cut to the degree.
-pub(crate) fn moved_up(degree: u8, register: u32) -> u32
-    requires { degree ≤ 32 }
-    ensures { result ≡ register * 2 ^ 8 % 2 ^ degree }
-{
-    ((u64::from(register) << 8) & ((1 << degree) - 1)) as u32
+    // The value times X^8, cut to the degree.
+    pub(crate) fn moved_up(self) -> u32
+        ensures { result ≡ self.value * 2 ^ 8 % 2 ^ self.generator.degree }
+    {
+        ((u64::from(self.value) << 8) & ((1 << self.generator.degree()) - 1)) as u32
+    }
 }

@@ -5,17 +5,16 @@ ghost use Rattle.std.proofs.Common.{rules, arith};
 
 use crate::engine::Engine;
 use crate::filling::tabulate;
-use crate::look_up::{look_up, look_up_all};
-use crate::stepping::{generator_of, least};
+use crate::register::Register;
 use crate::table::Table;
 use answer::fault::Fault;
 
 impl Engine for Table {
-    ghost degree_of = { λ e. e.generator.degree };
+    ghost degree_of = { λ e. e.register.generator.degree };
 
-    ghost low_of = { λ e. e.generator.low };
+    ghost low_of = { λ e. e.register.generator.low };
 
-    ghost register_of = { λ e. e.register };
+    ghost register_of = { λ e. e.register.value };
 
     ghost carries_of = { λ _. carries_all };
 
@@ -23,45 +22,39 @@ impl Engine for Table {
 
     // X^8 + 1
     fn new() -> Self
-        ensures register { result.register ≡ 0 }
-        ensures degree { result.generator.degree ≡ 8 }
-        ensures low { result.generator.low ≡ 1 }
+        ensures register { result.register.value ≡ 0 }
+        ensures degree { result.register.generator.degree ≡ 8 }
+        ensures low { result.register.generator.low ≡ 1 }
     {
-        let generator = least();
+        let register = Register::new();
         let mut entries = [0; 256];
-        tabulate(&mut entries, generator);
-        Table {
-            generator,
-            register: 0,
-            entries,
-        }
+        tabulate(&mut entries, register.generator());
+        Table { register, entries }
     }
 
     fn set(&mut self, degree: u8, low: u32) -> Result<(), Fault> {
-        if degree == self.generator.degree() && low == self.generator.low() {
-            self.register = 0;
-            return Ok(());
+        let mut register = self.register;
+        register.set(degree, low)?;
+        if register.generator() != self.register.generator() {
+            tabulate(&mut self.entries, register.generator());
         }
-        let generator = generator_of(degree, low)?;
-        tabulate(&mut self.entries, generator);
-        self.generator = generator;
-        self.register = 0;
+        self.register = register;
         Ok(())
     }
 
     fn clear(&mut self) {
-        self.register = 0;
+        self.register.clear();
     }
 
     fn feed(&mut self, q: u8) {
-        self.register = look_up(&self.entries, self.generator, self.register, q);
+        self.register.look_up(&self.entries, q);
     }
 
     fn value(&self) -> u32 {
-        self.register
+        self.register.value()
     }
 
     fn feed_all(&mut self, bytes: &[u8]) {
-        self.register = look_up_all(&self.entries, self.generator, self.register, bytes);
+        self.register.look_up_all(&self.entries, bytes);
     }
 }

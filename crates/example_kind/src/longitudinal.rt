@@ -2,17 +2,17 @@
 ghost use Rattle.std.specs.Prelude.{◌≡◌};
 ghost use Rattle.answer.specs.Refusal.{read};
 ghost use Rattle.answer.specs.Rules.{by_rules};
-ghost use Rattle.words.specs.Words.{plain};
 ghost use Rattle.code.specs.Model.{described_rules};
 ghost use Rattle.example_kind.specs.Model.{longitudinal, reach_rules};
 ghost use Rattle.example_kind.specs.Laws;
 
 use answer::fault::Fault;
+use code::bytes::sum;
 use code::description::{Description, Sheet};
-use code::fields::{fitting, lawful_reach};
+use code::fields::{fitting, lawful_reach, one_generator};
 use code::kind::Kind;
 
-#[derive(Clone, Copy)]
+#[derive(Clone, Copy, PartialEq, Eq, Debug)]
 pub struct Longitudinal;
 
 // What is asked of a description: X^8 + 1 and nothing else.
@@ -25,15 +25,7 @@ fn fields(d: Description) -> Result<(), Fault>
     if d.degree != 8 {
         return Err(Fault::KindField(3));
     }
-    if d.degree2 != 0 {
-        return Err(Fault::KindField(8));
-    }
-    if d.low2 != 0 {
-        return Err(Fault::KindField(9));
-    }
-    if d.tuple != 1 {
-        return Err(Fault::KindField(11));
-    }
+    one_generator(d)?;
     if d.low != 1 {
         return Err(Fault::KindLow(4));
     }
@@ -48,17 +40,6 @@ fn reaches(reach: u16) -> Result<(), Fault>
         return Err(Fault::Reach);
     }
     Ok(())
-}
-
-// The sum of the bytes.
-fn sum(message: &[u8]) -> u8
-    ensures { result ≡ plain message.now }
-{
-    let mut total = 0u8;
-    for b in message {
-        total ^= *b;
-    }
-    total
 }
 
 impl Kind for Longitudinal {

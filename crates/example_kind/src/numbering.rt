@@ -8,11 +8,5 @@ pub fn longitudinal_is_numbered() -> u8
     ensures answer { result ≡ 0 }
     ensures numbers { Numbered longitudinal }
 {
-    numbering();
     0
 }
-
-// The theorem itself.
-fn numbering()
-    ensures { Numbered longitudinal }
-{}

@@ -12,9 +12,9 @@ use engine::engine::Engine;
 // X^8 + 1 with a register of zero.
 #[unsafe(no_mangle)]
 pub extern "C" fn pukhtamo_bitwise_new() -> Bitwise
-    ensures register { result.register ≡ 0 }
-    ensures degree { result.generator.degree ≡ 8 }
-    ensures low { result.generator.low ≡ 1 }
+    ensures register { result.register.value ≡ 0 }
+    ensures degree { result.register.generator.degree ≡ 8 }
+    ensures low { result.register.generator.low ≡ 1 }
 {
     Bitwise::new()
 }
@@ -23,9 +23,9 @@ pub extern "C" fn pukhtamo_bitwise_new() -> Bitwise
 #[unsafe(no_mangle)]
 pub extern "C" fn pukhtamo_bitwise_set(engine: &mut Bitwise, degree: u8, low: u32) -> u8
     ensures answer { result ≡ number_of (setting (carries_all degree low) degree low) }
-    ensures degree { engine.new.generator.degree ≡ if_ok (setting (carries_all degree low) degree low) degree engine.old.generator.degree }
-    ensures low { engine.new.generator.low ≡ if_ok (setting (carries_all degree low) degree low) low engine.old.generator.low }
-    ensures register { engine.new.register ≡ if_ok (setting (carries_all degree low) degree low) 0 engine.old.register }
+    ensures degree { engine.new.register.generator.degree ≡ if_ok (setting (carries_all degree low) degree low) degree engine.old.register.generator.degree }
+    ensures low { engine.new.register.generator.low ≡ if_ok (setting (carries_all degree low) degree low) low engine.old.register.generator.low }
+    ensures register { engine.new.register.value ≡ if_ok (setting (carries_all degree low) degree low) 0 engine.old.register.value }
 {
     set_to(engine, degree, low)
 }
@@ -33,10 +33,10 @@ pub extern "C" fn pukhtamo_bitwise_set(engine: &mut Bitwise, degree: u8, low: u3
 // The remainder of the message by the generator that the engine holds; the register is then that remainder.
 #[unsafe(no_mangle)]
 pub extern "C" fn pukhtamo_bitwise_remainder(engine: &mut Bitwise, message: &[u8]) -> u32
-    ensures answer { result ≡ remainder engine.old.generator.degree engine.old.generator.low message.now }
-    ensures degree { engine.new.generator.degree ≡ engine.old.generator.degree }
-    ensures low { engine.new.generator.low ≡ engine.old.generator.low }
-    ensures register { engine.new.register ≡ result }
+    ensures answer { result ≡ remainder engine.old.register.generator.degree engine.old.register.generator.low message.now }
+    ensures degree { engine.new.register.generator.degree ≡ engine.old.register.generator.degree }
+    ensures low { engine.new.register.generator.low ≡ engine.old.register.generator.low }
+    ensures register { engine.new.register.value ≡ result }
 {
     remainder_of(engine, message)
 }
@@ -44,10 +44,10 @@ pub extern "C" fn pukhtamo_bitwise_remainder(engine: &mut Bitwise, message: &[u8
 // The same, fed byte by byte.
 #[unsafe(no_mangle)]
 pub extern "C" fn pukhtamo_bitwise_remainder_by_bytes(engine: &mut Bitwise, message: &[u8]) -> u32
-    ensures answer { result ≡ remainder engine.old.generator.degree engine.old.generator.low message.now }
-    ensures degree { engine.new.generator.degree ≡ engine.old.generator.degree }
-    ensures low { engine.new.generator.low ≡ engine.old.generator.low }
-    ensures register { engine.new.register ≡ result }
+    ensures answer { result ≡ remainder engine.old.register.generator.degree engine.old.register.generator.low message.now }
+    ensures degree { engine.new.register.generator.degree ≡ engine.old.register.generator.degree }
+    ensures low { engine.new.register.generator.low ≡ engine.old.register.generator.low }
+    ensures register { engine.new.register.value ≡ result }
 {
     remainder_by_bytes(engine, message)
 }

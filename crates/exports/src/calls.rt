@@ -1,4 +1,5 @@
 // What the exports do, for any engine.
+// The four exports of each engine are written out: for the C interface an `extern "C"` function takes no type parameter.
 ghost use Rattle.std.specs.Prelude.{◌≡◌, ℕ};
 ghost use Rattle.answer.specs.Refusal.{number_of, if_ok};
 ghost use Rattle.exports.specs.Calls.{setting};

@@ -9,6 +9,8 @@ use Rattle.engine.specs.Meaning.{carries_all}
 use Rattle.station.specs.Book.{PlainBook}
 use Rattle.station.specs.Calls.{Change, enter, narrow, retire, Call, change, book_after}
 use Rattle.runs.specs.Pledge.{three_kinds_over}
+use Rattle.exports_station.specs.declared.change.Change.{Change as MadeChange}
+use Rattle.exports_station.specs.declared.change.Change.TheVariants.{Enter, Narrow, Retire}
 use Rattle.exports_station.specs.declared.form.Code.{Code}
 use Rattle.exports_station.specs.declared.form.BookChange.{BookChange}
 use Rattle.exports_station.specs.declared.form.CallAnswer.{CallAnswer}
@@ -25,6 +27,12 @@ abbrev pub change_of : BookChange → Change
 change_of c =
     cond (c.call == 1) (enter c.number (description_of c.code) c.reach)
     (cond (c.call == 2) (narrow c.number c.reach) (retire c.number))
+
+-- A change as the calls' definitions have it.
+abbrev pub plain : MadeChange → Change
+plain (Enter n d reach) = enter n d reach
+plain (Narrow n reach) = narrow n reach
+plain (Retire n) = retire n
 
 abbrev pub call_of : BookChange → Call
 call_of c = change (change_of c)

@@ -12,7 +12,7 @@ pub struct Code {
     pub tuple: u8,
 }
 
-// A change of a book. Call 1 enters the code, call 2 narrows, and any other retires.
+// A change of a book. Call 1 enters the code, call 2 narrows, and any other retires. A number for the call: the C interface has it so.
 #[repr(C)]
 #[derive(Clone, Copy)]
 pub struct BookChange {

@@ -3,7 +3,8 @@
 // several times over in one go: all give the same answer.
 #![tactic(auto)]
 
-mod calls;
+mod change;
+mod checking;
 pub mod form;
 pub mod kind_exports;
 pub mod station_exports;

@@ -6,16 +6,17 @@ ghost use Rattle.station.specs.Frame.{sealed, taken};
 ghost use Rattle.exports_station.specs.Forms.{kinds_asked, book_with, change_of, told, done};
 
 use crate::form::{BookChange, CallAnswer};
-use crate::kind_exports::kinds;
-use crate::stationing::{change, seal, take, trial};
-use crate::telling::tell;
+use crate::stationing::{make, seal, station_with, take, trial};
+use engine::table::Table;
+use kinds::three::three_kinds;
 
 // What one change more would answer.
 #[unsafe(no_mangle)]
 pub extern "C" fn pukhtamo_change(changes: &[BookChange], last: &BookChange) -> CallAnswer
     ensures { result ≡ told (done (changing kinds_asked (book_with kinds_asked changes.now) (change_of last.now))) }
 {
-    tell(change(kinds(), changes, *last))
+    let mut station = station_with(three_kinds::<Table>(), changes);
+    make(&mut station, (*last).into()).into()
 }
 
 // Writes the frame of a message at the start of the output, once and `more` times more. The length is the frame's.
@@ -30,7 +31,8 @@ pub extern "C" fn pukhtamo_seal(
     ensures answer { result ≡ told (length_of (sealed kinds_asked (book_with kinds_asked changes.now) number message.now (length out.old))) }
     ensures written { out.new ≡ written (sealed kinds_asked (book_with kinds_asked changes.now) number message.now (length out.old)) out.old }
 {
-    tell(seal(kinds(), changes, number, message, out, more))
+    let mut station = station_with(three_kinds::<Table>(), changes);
+    seal(&mut station, number, message, out, more).into()
 }
 
 // Takes a frame, once and `more` times more. The length is the message's, which begins at byte 16 of the frame.
@@ -38,7 +40,8 @@ pub extern "C" fn pukhtamo_seal(
 pub extern "C" fn pukhtamo_take(changes: &[BookChange], frame: &[u8], more: u32) -> CallAnswer
     ensures { result ≡ told (length_of (taken kinds_asked (book_with kinds_asked changes.now) frame.now)) }
 {
-    tell(take(kinds(), changes, frame, more))
+    let mut station = station_with(three_kinds::<Table>(), changes);
+    take(&mut station, frame, more).into()
 }
 
 // Takes a frame with a byte planted at a place, once and `more` times more. The frame has its own byte back.
@@ -53,5 +56,6 @@ pub extern "C" fn pukhtamo_trial(
     ensures answer { result ≡ told (done (trying kinds_asked (book_with kinds_asked changes.now) frame.old at byte)) }
     ensures back { frame.new ≡ frame.old }
 {
-    tell(trial(kinds(), changes, frame, at, byte, more))
+    let mut station = station_with(three_kinds::<Table>(), changes);
+    trial(&mut station, frame, at, byte, more).into()
 }

@@ -6,37 +6,21 @@ mod say;
 
 use answer::fault::Fault;
 use anyhow::anyhow;
-use code::bank::Bank;
 use code::catalogue::published;
 use code::description::Description;
-use crc::crc_kind::Crc;
-use crc::parity_kind::CrcParity;
-use engine::engine::Engine;
 use engine::table::Table;
+use kinds::three::three_kinds;
 use runs::run::run;
 use say::told;
 use station::call::{Call, Outcome};
 use std::alloc::{AllocError, Global};
-use weighted::weighted_kind::WeightedSum;
-
-type Kinds = Bank<Crc<Table>, Bank<CrcParity<Table>, WeightedSum>>;
 
 const READING: [u8; 8] = [0x00, 0x00, 0x13, 0x88, 0xFF, 0xEC, 0x01, 0xF4];
 
+// The reading, and a byte more.
 const LONGER: [u8; 9] = [0x00, 0x00, 0x13, 0x88, 0xFF, 0xEC, 0x01, 0xF4, 0x01];
 
 const BLANK: [u8; 40] = [0; 40];
-
-// The kinds of both sites.
-fn kinds() -> Kinds {
-    Bank::new(
-        Crc::new(<Table as engine::engine::Engine>::new()),
-        Bank::new(
-            CrcParity::new(<Table as engine::engine::Engine>::new()),
-            WeightedSum,
-        ),
-    )
-}
 
 // The codes that the sites enter.
 #[derive(Clone, Copy)]
@@ -66,8 +50,17 @@ fn frame_of<'v>(outcome: Option<&'v Outcome<'_>>) -> &'v [u8] {
     }
 }
 
+// What the old site sealed.
+#[derive(Clone, Copy)]
+struct Frames<'f> {
+    reading: &'f [u8],
+    short: &'f [u8],
+    sums: &'f [u8],
+    longer: &'f [u8],
+}
+
 // The old site: what it entered and sealed.
-fn old_site<'f>(rt: &HostRuntime, c: Codes, reading: &'f [u8]) -> anyhow::Result<()> {
+fn old_site(rt: &HostRuntime, c: Codes, reading: &[u8]) -> anyhow::Result<()> {
     let calls = [
         Call::Enter {
             number: 5,
@@ -146,21 +139,20 @@ fn old_site<'f>(rt: &HostRuntime, c: Codes, reading: &'f [u8]) -> anyhow::Result
         Call::Retire { number: 9 },
         Call::Retire { number: 9 },
     ];
-    let ran = run(rt.alloc(), kinds(), &calls)?;
+    let ran = run(rt.alloc(), three_kinds::<Table>(), &calls)?;
     println!(rt; "The old site seals")?;
     told(rt, &calls, &ran.outcomes)?;
     Ok(())
 }
 
 // The new site: what it makes of the old site's frames.
-fn new_site<'f>(
-    rt: &HostRuntime,
-    c: Codes,
-    reading: &'f [u8],
-    short: &'f [u8],
-    longer: &'f [u8],
-    sums: &'f [u8],
-) -> anyhow::Result<()> {
+fn new_site(rt: &HostRuntime, c: Codes, sent: Frames<'_>) -> anyhow::Result<()> {
+    let Frames {
+        reading,
+        short,
+        sums,
+        longer,
+    } = sent;
     let calls = [
         Call::Enter {
             number: 5,
@@ -238,7 +230,7 @@ fn new_site<'f>(
             out: &BLANK[0..19],
         },
     ];
-    let ran = run(rt.alloc(), kinds(), &calls)?;
+    let ran = run(rt.alloc(), three_kinds::<Table>(), &calls)?;
     println!(rt; "\nThe new site, whose set-up tool saved another code under 5, takes")?;
     told(rt, &calls, &ran.outcomes)?;
     Ok(())
@@ -246,9 +238,7 @@ fn new_site<'f>(
 
 // Seals the old site's frames, and has both sites make their calls.
 fn fleet(rt: &HostRuntime) -> anyhow::Result<()> {
-    let Some(c) = published_codes() else {
-        return Err(anyhow!("no such code"));
-    };
+    let c = published_codes().ok_or(anyhow!("no such code"))?;
     let sealing = [
         Call::Enter {
             number: 5,
@@ -286,13 +276,15 @@ fn fleet(rt: &HostRuntime) -> anyhow::Result<()> {
             out: &BLANK[0..19],
         },
     ];
-    let sent = run(rt.alloc(), kinds(), &sealing)?;
-    let reading = frame_of(sent.outcomes.get(3));
-    let short = frame_of(sent.outcomes.get(4));
-    let sums = frame_of(sent.outcomes.get(5));
-    let longer = frame_of(sent.outcomes.get(6));
-    old_site(rt, c, reading)?;
-    new_site(rt, c, reading, short, longer, sums)
+    let sealed = run(rt.alloc(), three_kinds::<Table>(), &sealing)?;
+    let sent = Frames {
+        reading: frame_of(sealed.outcomes.get(3)),
+        short: frame_of(sealed.outcomes.get(4)),
+        sums: frame_of(sealed.outcomes.get(5)),
+        longer: frame_of(sealed.outcomes.get(6)),
+    };
+    old_site(rt, c, sent.reading)?;
+    new_site(rt, c, sent)
 }
 
 fn main(rt: HostRuntime) -> anyhow::Result<()> {

@@ -1,30 +1,25 @@
 // Calls and their outcomes in words.
-use answer::fault::{Fault, Layer};
+use answer::fault::Fault;
+use shown::bytes::Bytes;
 use station::call::{Call, Outcome};
 use std::{fmt, io};
 
-// Bytes in hexadecimal.
+// A message in hexadecimal, or the word for an empty one.
 #[derive(Clone, Copy)]
-struct Bytes<'a> {
-    bytes: &'a [u8],
-}
+struct Message<'a>(&'a [u8]);
 
-impl fmt::Display for Bytes<'_> {
+impl fmt::Display for Message<'_> {
     fn fmt<W: fmt::Write>(&self, f: &mut fmt::Formatter<W>) -> fmt::Result {
-        if self.bytes.is_empty() {
-            return write!(f, "nothing");
+        if self.0.is_empty() {
+            return f.write_str("nothing");
         }
-        for b in self.bytes {
-            let b = *b;
-            write!(f, "{b:02X}")?;
-        }
-        Ok(())
+        write!(f, "{}", Bytes(self.0))
     }
 }
 
 // Every call with its outcome, a line each.
 pub(crate) fn told(
-    rt: &HostRuntime,
+    rt: &impl Print,
     calls: &[Call<'_>],
     outcomes: &[Outcome<'_>],
 ) -> io::Result<()> {
@@ -35,47 +30,36 @@ pub(crate) fn told(
     Ok(())
 }
 
-fn asked(rt: &HostRuntime, call: &Call<'_>) -> io::Result<()> {
+fn asked(rt: &impl Print, call: &Call<'_>) -> io::Result<()> {
     match call {
-        Call::Enter {
-            number,
-            description: _,
-            reach,
-        } => print!(rt; "  enter {number}, reach {reach}: "),
+        Call::Enter { number, reach, .. } => print!(rt; "  enter {number}, reach {reach}: "),
         Call::Narrow { number, reach } => print!(rt; "  narrow {number} to {reach}: "),
         Call::Retire { number } => print!(rt; "  retire {number}: "),
         Call::Seal {
             number,
             message,
-            out: _,
-        } => print!(rt; "  seal {} under {number}: ", Bytes { bytes: message }),
+            ..
+        } => print!(rt; "  seal {} under {number}: ", Message(message)),
         Call::Take { frame } => print!(rt; "  take a frame of {} bytes: ", frame.len()),
-        Call::Trial { frame: _, at, byte } => print!(rt; "  trial with {byte:02X} at {at}: "),
+        Call::Trial { at, byte, .. } => print!(rt; "  trial with {byte:02X} at {at}: "),
     }
 }
 
-fn answered(rt: &HostRuntime, outcome: &Outcome<'_>) -> io::Result<()> {
+fn answered(rt: &impl Print, outcome: &Outcome<'_>) -> io::Result<()> {
     match outcome {
         Outcome::Done(Ok(())) | Outcome::Tried(Ok(()), _) => println!(rt; "done"),
         Outcome::Wrote(Ok(size), _) => println!(rt; "wrote {size} bytes"),
-        Outcome::Handed(Ok(message), _) => println!(rt; "handed over {}", Bytes { bytes: message }),
-        Outcome::Done(Err(fault)) | Outcome::Tried(Err(fault), _) => refused(rt, *fault),
-        Outcome::Wrote(Err(fault), _) => refused(rt, *fault),
-        Outcome::Handed(Err(fault), _) => refused(rt, *fault),
+        Outcome::Handed(Ok(message), _) => println!(rt; "handed over {}", Message(message)),
+        Outcome::Done(Err(fault))
+        | Outcome::Wrote(Err(fault), _)
+        | Outcome::Handed(Err(fault), _)
+        | Outcome::Tried(Err(fault), _) => refused(rt, *fault),
     }
 }
 
-fn refused(rt: &HostRuntime, fault: Fault) -> io::Result<()> {
-    let layer = match fault.layer() {
-        Layer::Line => "line",
-        Layer::Engine => "engine",
-        Layer::Kind => "kind",
-        Layer::Book => "book",
-        Layer::Frame => "frame",
-    };
-    println!(rt;
-        "refused with {} by the {layer} at {}",
-        fault.number(),
-        fault.place()
-    )
+fn refused(rt: &impl Print, fault: Fault) -> io::Result<()> {
+    let number = fault.number();
+    let layer = fault.layer();
+    let place = fault.place();
+    println!(rt; "refused with {number} by the {layer} at {place}")
 }

@@ -7,34 +7,18 @@ ghost use Rattle.engine.specs.Meaning.{carries_all};
 ghost use Rattle.runs.specs.Pledge.{three_kinds_over};
 ghost use Rattle.console.specs.Transcript.{transcript_of};
 
-use code::bank::Bank;
 use console::transcript::transcript;
-use crc::crc_kind::Crc;
-use crc::parity_kind::CrcParity;
-use engine::engine::Engine;
 use engine::table::Table;
+use kinds::three::three_kinds;
 use std::alloc::{AllocError, Global};
 use std::io;
 use std::io::{Read, Write};
-use weighted::weighted_kind::WeightedSum;
-
-type Kinds = Bank<Crc<Table>, Bank<CrcParity<Table>, WeightedSum>>;
-
-fn kinds() -> Kinds {
-    Bank::new(
-        Crc::new(<Table as engine::engine::Engine>::new()),
-        Bank::new(
-            CrcParity::new(<Table as engine::engine::Engine>::new()),
-            WeightedSum,
-        ),
-    )
-}
 
 // What is printed of an input: its transcript at a new station over kinds 1 to 3, with engines that carry every generator.
 fn obeyed(heap: Global, input: &[u8]) -> Result<Vec<u8>, AllocError>
     ensures { IfOk result (λ v. v.items ≡ transcript_of (asked (three_kinds_over carries_all carries_all)) input.now) }
 {
-    transcript(heap, kinds(), input)
+    transcript(heap, three_kinds::<Table>(), input)
 }
 
 fn main(rt: HostRuntime) -> io::Result<()> {

@@ -7,11 +7,5 @@ pub fn division_stands() -> u8
     ensures answer { result ≡ 0 }
     ensures division { DivisionStands }
 {
-    division();
     0
 }
-
-// The theorem itself.
-fn division()
-    ensures { DivisionStands }
-{}

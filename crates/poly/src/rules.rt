@@ -12,7 +12,7 @@ impl Generator {
     pub fn new(degree: u8, low: u32) -> Result<Generator, Fault>
         ensures { seen result ≡ by_rules (generator_rules 2 degree low) (pair degree low) }
     {
-        if degree < 2 || degree > 32 {
+        if !(2..=32).contains(&degree) {
             return Err(Fault::EngineDegree);
         }
         if u64::from(low) >> degree != 0 {

@@ -1,5 +1,5 @@
 // What a search for the period answers.
-#[derive(Clone, Copy, Debug)]
+#[derive(Clone, Copy, PartialEq, Eq, Debug)]
 pub struct Walk {
     // the period, if there is one up to 32,768
     pub period: Option<u16>,

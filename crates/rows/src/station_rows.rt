@@ -1,16 +1,9 @@
 // The rows of the book and of the frame: a call at the book of `stations`, and the refusal that it gives.
+use crate::refusal::Refusal;
 use answer::fault::Layer;
 use code::description::Description;
+use listing::descriptions::HEC;
 use station::call::Call;
-
-pub(crate) const HEC: Description = Description {
-    kind: 1,
-    degree: 8,
-    low: 0x07,
-    degree2: 0,
-    low2: 0,
-    tuple: 1,
-};
 
 // A frame that is taken: 01 under number 5.
 pub(crate) const GOOD: &[u8] =
@@ -45,7 +38,7 @@ const BOTH_SUMS_VANISH: &[u8] =
 
 const ROOM: &[u8] = &[0xEE; 40];
 
-pub(crate) type Row = (Call<'static>, u8, Layer, usize);
+pub(crate) type Row = (Call<'static>, Refusal);
 
 pub(crate) const BOOK: [Row; 6] = [
     (
@@ -54,9 +47,7 @@ pub(crate) const BOOK: [Row; 6] = [
             description: HEC,
             reach: 15,
         },
-        21,
-        Layer::Book,
-        1,
+        (21, Layer::Book, 1),
     ),
     (
         Call::Enter {
@@ -64,37 +55,29 @@ pub(crate) const BOOK: [Row; 6] = [
             description: HEC,
             reach: 15,
         },
-        22,
-        Layer::Book,
-        1,
+        (22, Layer::Book, 1),
     ),
     (
         Call::Narrow {
             number: 0x99,
             reach: 9,
         },
-        23,
-        Layer::Book,
-        1,
+        (23, Layer::Book, 1),
     ),
-    (Call::Retire { number: 0x99 }, 23, Layer::Book, 1),
+    (Call::Retire { number: 0x99 }, (23, Layer::Book, 1)),
     (
         Call::Narrow {
             number: 5,
             reach: 15,
         },
-        24,
-        Layer::Book,
-        12,
+        (24, Layer::Book, 12),
     ),
     (
         Call::Narrow {
             number: 5,
             reach: 1,
         },
-        16,
-        Layer::Kind,
-        12,
+        (16, Layer::Kind, 12),
     ),
 ];
 
@@ -105,9 +88,7 @@ pub(crate) const SEAL: [Row; 4] = [
             message: &[1],
             out: ROOM,
         },
-        23,
-        Layer::Book,
-        1,
+        (23, Layer::Book, 1),
     ),
     (
         Call::Seal {
@@ -115,9 +96,7 @@ pub(crate) const SEAL: [Row; 4] = [
             message: &[],
             out: ROOM,
         },
-        31,
-        Layer::Frame,
-        0,
+        (31, Layer::Frame, 0),
     ),
     (
         Call::Seal {
@@ -125,9 +104,7 @@ pub(crate) const SEAL: [Row; 4] = [
             message: &[0; 15],
             out: ROOM,
         },
-        32,
-        Layer::Frame,
-        12,
+        (32, Layer::Frame, 12),
     ),
     (
         Call::Seal {
@@ -135,26 +112,22 @@ pub(crate) const SEAL: [Row; 4] = [
             message: &[1],
             out: &[0xEE; 17],
         },
-        33,
-        Layer::Frame,
-        17,
+        (33, Layer::Frame, 17),
     ),
 ];
 
-pub(crate) type TakeRow = (&'static [u8], u8, Layer, usize);
-
 // Frames that take refuses.
-pub(crate) const TAKE: [TakeRow; 10] = [
-    (&[1; 16], 41, Layer::Frame, 16),
-    (OTHER_LAYOUT, 42, Layer::Frame, 0),
-    (OTHER_HEAD_CHECK, 43, Layer::Frame, 14),
-    (BYTE_ADDED, 44, Layer::Frame, 12),
-    (NOT_HELD, 23, Layer::Book, 1),
-    (OTHER_KIND, 45, Layer::Frame, 2),
-    (CHECK_ALONE, 46, Layer::Frame, 12),
-    (OVER_REACH, 32, Layer::Frame, 12),
-    (OTHER_CHECK, 47, Layer::Frame, 17),
-    (BOTH_SUMS_VANISH, 47, Layer::Frame, 18),
+pub(crate) const TAKE: [(&[u8], Refusal); 10] = [
+    (&[1; 16], (41, Layer::Frame, 16)),
+    (OTHER_LAYOUT, (42, Layer::Frame, 0)),
+    (OTHER_HEAD_CHECK, (43, Layer::Frame, 14)),
+    (BYTE_ADDED, (44, Layer::Frame, 12)),
+    (NOT_HELD, (23, Layer::Book, 1)),
+    (OTHER_KIND, (45, Layer::Frame, 2)),
+    (CHECK_ALONE, (46, Layer::Frame, 12)),
+    (OVER_REACH, (32, Layer::Frame, 12)),
+    (OTHER_CHECK, (47, Layer::Frame, 17)),
+    (BOTH_SUMS_VANISH, (47, Layer::Frame, 18)),
 ];
 
 pub(crate) const TRIAL: [Row; 2] = [
@@ -164,9 +137,7 @@ pub(crate) const TRIAL: [Row; 2] = [
             at: 18,
             byte: 0,
         },
-        48,
-        Layer::Frame,
-        18,
+        (48, Layer::Frame, 18),
     ),
     (
         Call::Trial {
@@ -174,8 +145,6 @@ pub(crate) const TRIAL: [Row; 2] = [
             at: 17,
             byte: 6,
         },
-        47,
-        Layer::Frame,
-        17,
+        (47, Layer::Frame, 17),
     ),
 ];

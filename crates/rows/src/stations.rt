@@ -1,22 +1,18 @@
 // The refusals of a station through its calls, and what a refusal leaves: the book, the output, the frame.
+use crate::refusal::{Refusal, refusal_of};
 use crate::station_rows::*;
 use answer::fault::{Fault, Layer};
 use answer::reading::number_of;
-use code::bank::Bank;
 use code::catalogue::published;
 use code::kind::Kind;
-use crc::crc_kind::Crc;
-use crc::parity_kind::CrcParity;
-use engine::engine::Engine;
 use engine::table::Table;
+use kinds::three::{Kinds, three_kinds};
+use listing::descriptions::HEC;
 use station::call::{Call, Outcome};
 use station::station::Station;
 use std::alloc::Global;
 use std::process::Abort;
 use std::test::Fail;
-use weighted::weighted_kind::WeightedSum;
-
-type Kinds = Bank<Crc<Table>, Bank<CrcParity<Table>, WeightedSum>>;
 
 // An entry: the number, the code's name, and the length of the longest message within a reach of 15.
 const ENTRIES: [(u8, &str, usize); 3] = [
@@ -25,18 +21,12 @@ const ENTRIES: [(u8, &str, usize); 3] = [
     (8, "WSC-8", 13),
 ];
 
-fn empty() -> Station<Kinds> {
-    Station::new(Bank::new(
-        Crc::new(<Table as engine::engine::Engine>::new()),
-        Bank::new(
-            CrcParity::new(<Table as engine::engine::Engine>::new()),
-            WeightedSum,
-        ),
-    ))
+fn empty() -> Station<Kinds<Table>> {
+    Station::new(three_kinds())
 }
 
 // Sixteen entries of reach 15: the three, and ATM-HEC under 32 to 44.
-fn full() -> Result<Station<Kinds>, Fail> {
+fn full() -> Result<Station<Kinds<Table>>, Fail> {
     let mut station = empty();
     for (number, name, _) in &ENTRIES {
         station.enter(*number, published(name).ok_or("none")?, 15)?;
@@ -48,7 +38,7 @@ fn full() -> Result<Station<Kinds>, Fail> {
 }
 
 // The book is as it was: these numbers and no others, each with its code and its reach. Nothing is narrowed to 65,535.
-fn as_it_was(rt: &impl Abort, station: &mut Station<Kinds>) -> Result<(), Fail> {
+fn as_it_was(rt: &impl Abort, station: &mut Station<Kinds<Table>>) -> Result<(), Fail> {
     for number in 0..=255u8 {
         let held = matches!(number, 5 | 6 | 8 | 32..=44);
         let answer = station.narrow(number, 65535);
@@ -65,7 +55,7 @@ fn as_it_was(rt: &impl Abort, station: &mut Station<Kinds>) -> Result<(), Fail> 
 // The longest message is sealed, and taken.
 fn seals(
     rt: &impl Abort,
-    station: &mut Station<Kinds>,
+    station: &mut Station<Kinds<Table>>,
     number: u8,
     longest: usize,
 ) -> Result<(), Fail> {
@@ -78,25 +68,23 @@ fn seals(
     Ok(())
 }
 
-// The refusal in an outcome whose output or frame is what the call showed.
-fn refusal_in(rt: &impl Abort, outcome: Outcome<'_>, shown: &[u8]) -> Result<Fault, Fail> {
-    let fault = match outcome {
-        Outcome::Done(Err(fault)) => fault,
-        Outcome::Wrote(Err(fault), out) => {
+// The refusal in an outcome, whose output or frame is what the call showed.
+fn refusal_in(rt: &impl Abort, outcome: Outcome<'_>, shown: &[u8]) -> Option<Refusal> {
+    match outcome {
+        Outcome::Done(answer) => refusal_of(answer),
+        Outcome::Wrote(answer, out) => {
             assert!(rt; out.as_slice() == shown);
-            fault
+            refusal_of(answer)
         }
-        Outcome::Handed(Err(fault), frame) => {
+        Outcome::Handed(answer, frame) => {
             assert!(rt; frame == shown);
-            fault
+            refusal_of(answer)
         }
-        Outcome::Tried(Err(fault), frame) => {
+        Outcome::Tried(answer, frame) => {
             assert!(rt; frame.as_slice() == shown);
-            fault
+            refusal_of(answer)
         }
-        _ => return Err(Fail::new("not refused")),
-    };
-    Ok(fault)
+    }
 }
 
 fn shown_by<'a>(call: Call<'a>) -> &'a [u8] {
@@ -116,12 +104,15 @@ fn shown_by<'a>(call: Call<'a>) -> &'a [u8] {
     }
 }
 
-fn row(rt: &impl Abort, heap: Global, station: &mut Station<Kinds>, row: &Row) -> Result<(), Fail> {
-    let (call, number, layer, place) = *row;
-    let fault = refusal_in(rt, station.perform(heap, call)?, shown_by(call))?;
-    assert_eq!(rt; fault.number(), number);
-    assert_eq!(rt; fault.layer(), layer);
-    assert_eq!(rt; fault.place(), place);
+fn row(
+    rt: &impl Abort,
+    heap: Global,
+    station: &mut Station<Kinds<Table>>,
+    row: Row,
+) -> Result<(), Fail> {
+    let (call, refusal) = row;
+    let outcome = station.perform(heap, call)?;
+    assert_eq!(rt; refusal_in(rt, outcome, shown_by(call)), Some(refusal));
     as_it_was(rt, station)
 }
 
@@ -130,7 +121,7 @@ fn book_and_seal_refuse(rt: HostRuntime) -> Result<(), Fail> {
     let mut station = full()?;
     as_it_was(&rt, &mut station)?;
     for each in BOOK.iter().chain(SEAL.iter()) {
-        row(&rt, rt.alloc(), &mut station, each)?;
+        row(&rt, rt.alloc(), &mut station, *each)?;
     }
     Ok(())
 }
@@ -139,29 +130,28 @@ fn book_and_seal_refuse(rt: HostRuntime) -> Result<(), Fail> {
 fn refused_both_ways(
     rt: &impl Abort,
     heap: Global,
-    station: &mut Station<Kinds>,
-    refusal: TakeRow,
+    station: &mut Station<Kinds<Table>>,
+    frame: &'static [u8],
+    refusal: Refusal,
 ) -> Result<(), Fail> {
-    let (frame, number, layer, place) = refusal;
+    row(rt, heap, station, (Call::Take { frame }, refusal))?;
+    let byte = frame.first().copied().ok_or("empty")?;
     row(
         rt,
         heap,
         station,
-        &(Call::Take { frame }, number, layer, place),
-    )?;
-    let byte = frame.first().copied().ok_or("empty")?;
-    let trial = Call::Trial { frame, at: 0, byte };
-    row(rt, heap, station, &(trial, number, layer, place))
+        (Call::Trial { frame, at: 0, byte }, refusal),
+    )
 }
 
 #[test]
 fn take_and_trial_refuse(rt: HostRuntime) -> Result<(), Fail> {
     let mut station = full()?;
-    for each in &TAKE {
-        refused_both_ways(&rt, rt.alloc(), &mut station, *each)?;
+    for (frame, refusal) in &TAKE {
+        refused_both_ways(&rt, rt.alloc(), &mut station, frame, *refusal)?;
     }
     for each in &TRIAL {
-        row(&rt, rt.alloc(), &mut station, each)?;
+        row(&rt, rt.alloc(), &mut station, *each)?;
     }
     Ok(())
 }

@@ -7,8 +7,6 @@ use Rattle.station.specs.declared.call.Call.{Call as Made}
 use Rattle.station.specs.declared.call.Outcome.{Outcome}
 use Rattle.station.specs.Book.{PlainBook, empty_book}
 use Rattle.station.specs.Calls.{Call, answer, step, run, answers_from}
-use Rattle.station.specs.Fitting.{all_admitted, Admitted}
-use Rattle.station.proofs.Admission.{run-admitted}
 use Rattle.station.specs.Outcomes.{plain_call, plain_calls, outcome_seen, outcomes_seen}
 
 -- ---- one call more
@@ -25,18 +23,16 @@ answers_more a b (d ∷ cs) c = ap (λ x. answer a b d ∷ x) (answers_more a (s
 -- one turn of a run: m is what the bank means at first, m' what it means now, b the book before the call and b' the one after it
 pub turn : (m m' : Model) (cs : List Made) (i : ℕ) (blank : Made) (outs outs' : List Outcome) (o : Outcome) (b b' : PlainBook) → i < length cs
     → outcomes_seen outs ≡ answers_from (asked m) empty_book (plain_calls (take i cs)) → b ≡ run (asked m) empty_book (plain_calls (take i cs)) → m' ≡ m
-    → outs' ≡ outs ++ o ∷ [] → (Admitted (asked m') b → outcome_seen o ≡ answer (asked m') b (plain_call (get_or cs i blank)))
+    → outs' ≡ outs ++ o ∷ [] → outcome_seen o ≡ answer (asked m') b (plain_call (get_or cs i blank))
     → b' ≡ step (asked m') b (plain_call (get_or cs i blank))
     → (outcomes_seen outs' ≡ answers_from (asked m) empty_book (plain_calls (take (i + 1) cs))) × (b' ≡ run (asked m) empty_book (plain_calls (take (i + 1) cs)))
 turn m m' cs i blank outs outs' o b b' l eo eb em ep h eb' =
     let a = asked m in
     let c = plain_call (get_or cs i blank) in
     let made = plain_calls (take i cs) in
-    let more : plain_calls (take (i + 1) cs) ≡ made ++ c ∷ [] = map_more plain_call cs i blank l in
-    let fine : Admitted (asked m') b =
-    ap₂ (λ (k : Model) (p : PlainBook). all_admitted (asked k) p.entries) em eb ∙ run-admitted a empty_book made refl in (
+    let more : plain_calls (take (i + 1) cs) ≡ made ++ c ∷ [] = map_more plain_call cs i blank l in (
       ap outcomes_seen ep ∙ map_push outcome_seen outs o
-          ∙ ap₂ (λ x y. x ++ y ∷ []) eo (h fine ∙ ap₂ (λ (k : Model) (p : PlainBook). answer (asked k) p c) em eb)
+          ∙ ap₂ (λ x y. x ++ y ∷ []) eo (h ∙ ap₂ (λ (k : Model) (p : PlainBook). answer (asked k) p c) em eb)
           ∙ sym (ap (answers_from a empty_book) more ∙ answers_more a empty_book made c),
       eb' ∙ ap₂ (λ (k : Model) (p : PlainBook). step (asked k) p c) em eb ∙ sym (ap (run a empty_book) more ∙ run_more a empty_book made c),
     )

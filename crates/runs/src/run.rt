@@ -5,7 +5,7 @@ ghost use Rattle.answer.specs.Refusal.{if_ok};
 ghost use Rattle.code.specs.Model.{Numbered, asked};
 ghost use Rattle.station.specs.Book.{empty_book};
 ghost use Rattle.station.specs.Calls.{Typed, answer, answers_from, book_after, copies, step};
-ghost use Rattle.station.specs.Fitting.{Admitted, answer_fitting};
+ghost use Rattle.station.specs.Fitting.{Admitted};
 ghost use Rattle.station.specs.Items.{items};
 ghost use Rattle.runs.specs.Pledge.{StationsPromise};
 ghost use Rattle.runs.specs.Numbers.{AllByNumbers};

@@ -1,4 +1,3 @@
 pub mod Sixteen
 pub mod Chunks
 pub mod Filling
-pub mod Moving

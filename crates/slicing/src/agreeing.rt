@@ -27,23 +27,8 @@ pub fn agree(degree: u8, low: u32, message: &[u8]) -> Answers
     ensures table { read result.table ≡ read result.slicing }
 {
     Answers {
-        slicing: remainder_by(
-            &mut <Slicing as engine::engine::Engine>::new(),
-            degree,
-            low,
-            message,
-        ),
-        bitwise: remainder_by(
-            &mut <Bitwise as engine::engine::Engine>::new(),
-            degree,
-            low,
-            message,
-        ),
-        table: remainder_by(
-            &mut <Table as engine::engine::Engine>::new(),
-            degree,
-            low,
-            message,
-        ),
+        slicing: remainder_by(&mut Slicing::new(), degree, low, message),
+        bitwise: remainder_by(&mut Bitwise::new(), degree, low, message),
+        table: remainder_by(&mut Table::new(), degree, low, message),
     }
 }

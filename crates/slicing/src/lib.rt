@@ -2,7 +2,6 @@
 #![tactic(auto)]
 
 pub mod agreeing;
-mod at_top;
 mod blocks;
 pub mod slicing;
 pub mod slicing_engine;

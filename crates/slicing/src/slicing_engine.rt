@@ -3,19 +3,19 @@ ghost use Rattle.std.specs.Prelude.{◌≡◌};
 ghost use Rattle.engine.specs.Meaning.{carries_all};
 ghost use Rattle.std.proofs.Common.{rules, arith};
 
-use crate::at_top::{feed_many, feed_one};
+use crate::blocks::feed_string;
 use crate::slicing::Slicing;
 use crate::tables::tabulate_all;
 use answer::fault::Fault;
 use engine::engine::Engine;
-use engine::stepping::{generator_of, least};
+use engine::register::Register;
 
 impl Engine for Slicing {
-    ghost degree_of = { λ e. e.generator.degree };
+    ghost degree_of = { λ e. e.register.generator.degree };
 
-    ghost low_of = { λ e. e.generator.low };
+    ghost low_of = { λ e. e.register.generator.low };
 
-    ghost register_of = { λ e. e.register };
+    ghost register_of = { λ e. e.register.value };
 
     ghost carries_of = { λ _. carries_all };
 
@@ -23,45 +23,42 @@ impl Engine for Slicing {
 
     // X^8 + 1
     fn new() -> Self
-        ensures register { result.register ≡ 0 }
-        ensures degree { result.generator.degree ≡ 8 }
-        ensures low { result.generator.low ≡ 1 }
+        ensures register { result.register.value ≡ 0 }
+        ensures degree { result.register.generator.degree ≡ 8 }
+        ensures low { result.register.generator.low ≡ 1 }
     {
-        let generator = least();
+        let register = Register::new();
         let mut tables = [[0; 256]; 16];
-        tabulate_all(&mut tables, generator);
-        Slicing {
-            generator,
-            register: 0,
-            tables,
-        }
+        tabulate_all(&mut tables, register.generator());
+        Slicing { register, tables }
     }
 
     fn set(&mut self, degree: u8, low: u32) -> Result<(), Fault> {
-        if degree == self.generator.degree() && low == self.generator.low() {
-            self.register = 0;
-            return Ok(());
+        let mut register = self.register;
+        register.set(degree, low)?;
+        if register.generator() != self.register.generator() {
+            tabulate_all(&mut self.tables, register.generator());
         }
-        let generator = generator_of(degree, low)?;
-        tabulate_all(&mut self.tables, generator);
-        self.generator = generator;
-        self.register = 0;
+        self.register = register;
         Ok(())
     }
 
     fn clear(&mut self) {
-        self.register = 0;
+        self.register.clear();
     }
 
+    // A byte is a string of one.
     fn feed(&mut self, q: u8) {
-        self.register = feed_one(&self.tables, self.generator, self.register, q);
+        self.feed_all(&[q]);
     }
 
     fn value(&self) -> u32 {
-        self.register
+        self.register.value()
     }
 
+    // The register stands at the top of 32 bits while it is fed.
     fn feed_all(&mut self, bytes: &[u8]) {
-        self.register = feed_many(&self.tables, self.generator, self.register, bytes);
+        let top = feed_string(&self.tables, self.register.at_top(), bytes);
+        self.register.set_from_top(top);
     }
 }

@@ -7,7 +7,7 @@ use Rattle.answer.specs.Rules.{then, need}
 use Rattle.code.specs.declared.description.Description.{Description}
 use Rattle.code.specs.Model.{Asked}
 use Rattle.station.specs.declared.entry.Entry.{Entry}
-use Rattle.station.specs.Book.{PlainBook, book_of, entry_of, held, held_in, narrowed_in, retired_in, with_reach}
+use Rattle.station.specs.Book.{PlainBook, book_of, entered, entry_of, held, held_in, narrowed_in, retired_in, with_reach}
 use Rattle.station.specs.Frame.{entry_at}
 use Rattle.station.specs.Calls.{enter, narrow, retire, Call, change, ask, entering, narrowing, retiring, step, run}
 use Rattle.station.specs.Fitting.{all_admitted, Admitted}
@@ -48,7 +48,7 @@ module _ (a : Asked) where
       and_true (is_ok (a.admission h.description reach)) (all_admitted a es) (ap (λ k. is_ok (a.admission k.description reach)) same ∙ ok) q
   narrowed_one false h es rest o e reach p q ok is r = and_true (fine h) (all_admitted a rest) p (r is)
 
-  all-narrowed : (es : List Entry) (n reach : ℕ) (e : Entry) → all_admitted a es ≡ true → held_in es n ≡ Some e
+  pub all-narrowed : (es : List Entry) (n reach : ℕ) (e : Entry) → all_admitted a es ≡ true → held_in es n ≡ Some e
       → is_ok (a.admission e.description reach) ≡ true → all_admitted a (narrowed_in es n reach) ≡ true
   all-narrowed [] n reach e p is ok = refl
   all-narrowed (h ∷ es) n reach e p is ok =
@@ -61,12 +61,18 @@ module _ (a : Asked) where
   first_ok (Ok u) f v e = refl
   first_ok (Err r) f v e = no_way (cc)
 
+  -- one entry more that is admitted, where the book has a place for it
+  pub added_kept : (b : PlainBook) (e : Entry) (x : Result (Unit {0}) Refusal) → Admitted a b → fine e ≡ true
+      → Admitted a (if_ok x (entered b e) b)
+  added_kept b e (Ok v) p q = all_push b.entries e p q
+  added_kept b e (Err r) p q = p
+
   entered_kept : (b : PlainBook) (n : ℕ) (d : Description) (reach : ℕ) (x : Result (Unit {0}) Refusal) → Admitted a b → entering a b n d reach ≡ x
       → Admitted a (if_ok x (book_of (b.entries ++ entry_of n d reach ∷ [])) b)
   entered_kept b n d reach (Ok v) p e = all_push b.entries (entry_of n d reach) p (first_ok (a.admission d reach) _ v e)
   entered_kept b n d reach (Err r) p e = p
 
-  retired_kept : (b : PlainBook) (n : ℕ) (x : Result (Unit {0}) Refusal) → Admitted a b → Admitted a (if_ok x (book_of (retired_in b.entries n)) b)
+  pub retired_kept : (b : PlainBook) (n : ℕ) (x : Result (Unit {0}) Refusal) → Admitted a b → Admitted a (if_ok x (book_of (retired_in b.entries n)) b)
   retired_kept b n (Ok v) p = all-retired b.entries n p
   retired_kept b n (Err r) p = p
 

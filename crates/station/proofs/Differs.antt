@@ -1,8 +1,11 @@
 -- The first place where two strings differ.
 -- Assumes nothing.
-use Rattle.std.proofs.Common.{◌≡◌, ℕ, zero, suc, ◌<◌, min, Bool, true, false, cond, eqb, List, [], ◌∷◌, length, get_or, take, Some, None, Option, refl, ap, le_of_suc-le-suc, not-suc-le-zero, arith, eq-eqb, ne_eqb, eqb-true}
-use Rattle.std.specs.Option.{option_map}
+use Rattle.std.proofs.Common.{◌≡◌, ℕ, suc, min, Bool, true, false, cond, not, eqb, List, [], ◌∷◌, length, Some, None, Option, sym, refl, ap, ◌∙◌, arith, eq-eqb, eqb-true}
+use lib.Dec.{eqb-zero-suc, eqb-suc-zero, eqb-suc-suc}
+use Rattle.std.specs.List.{position, zip}
+use Rattle.std.specs.Option.{option_map, option_or}
 use Rattle.station.specs.Frame.{differ}
+use Rattle.station.proofs.First.{first-here, first-later}
 
 no_way : {A : Type 0} → ◌≡◌ {A = ℕ} 0 1 → A
 no_way e = absurd (omega (arith, e))
@@ -26,24 +29,42 @@ differ-none (x ∷ xs) (y ∷ ys) p =
     let rest = differ-none xs ys h.1 in
     cc
 
-heads : (x y : ℕ) (xs ys : List ℕ) → x ∷ xs ≡ y ∷ ys → (x ≡ y) × (xs ≡ ys)
-heads x y xs ys e = (cc, cc)
+-- ---- the first pair that differs, or the end of the shorter string
 
-pub differ_at : (xs ys : List ℕ) (i : ℕ) → i < length xs → i < length ys → take i xs ≡ take i ys → (get_or xs i 0 ≡ get_or ys i 0 → ⊥) → differ xs ys ≡ Some i
-differ_at [] ys i a b p q = absurd (not-suc-le-zero a)
-differ_at (x ∷ xs) [] i a b p q = absurd (not-suc-le-zero b)
-differ_at (x ∷ xs) (y ∷ ys) zero a b p q = let f = ne_eqb x y q in rw f refl
-differ_at (x ∷ xs) (y ∷ ys) (suc i) a b p q =
-    let h = heads x y (take i xs) (take i ys) p in
-    let t = eq-eqb x y h.0 in
-    rw t (ap (option_map suc) (differ_at xs ys i (le_of_suc-le-suc a) (le_of_suc-le-suc b) h.1 q))
+abbrev pub unlike : ℕ × ℕ → Bool
+unlike p = not (eqb p.0 p.1)
 
-pub differ_end : (xs ys : List ℕ) (i : ℕ) → i ≡ min (length xs) (length ys) → take i xs ≡ take i ys → (length xs ≡ length ys → ⊥) → differ xs ys ≡ Some i
-differ_end [] [] i m p q = absurd (q refl)
-differ_end [] (y ∷ ys) i m p q = let z : 0 ≡ i = omega arith in ap Some z
-differ_end (x ∷ xs) [] i m p q = let z : 0 ≡ i = omega arith in ap Some z
-differ_end (x ∷ xs) (y ∷ ys) zero m p q = absurd (omega arith)
-differ_end (x ∷ xs) (y ∷ ys) (suc i) m p q =
-    let h = heads x y (take i xs) (take i ys) p in
-    let t = eq-eqb x y h.0 in
-    rw t (ap (option_map suc) (differ_end xs ys i (omega arith) h.1 (λ e. q (ap suc e))))
+-- where no pair differs
+abbrev pub ended : List ℕ → List ℕ → Option ℕ
+ended xs ys = cond (eqb (length xs) (length ys)) None (Some (min (length xs) (length ys)))
+
+further : (o : Option ℕ) (b : Bool) (k : ℕ) → option_or (option_map suc o) (cond b None (Some (suc k))) ≡ option_map suc (option_or o (cond b None (Some k)))
+further (Some i) b k = refl
+further None true k = refl
+further None false k = refl
+
+end_further : (x y : ℕ) (xs ys : List ℕ) (o : Option ℕ) → option_or (option_map suc o) (ended (x ∷ xs) (y ∷ ys)) ≡ option_map suc (option_or o (ended xs ys))
+end_further x y xs ys o =
+    let e : eqb (suc (length xs)) (suc (length ys)) ≡ eqb (length xs) (length ys) = eqb-suc-suc (length xs) (length ys) in
+    let k : min (suc (length xs)) (suc (length ys)) ≡ suc (min (length xs) (length ys)) = omega arith in
+    rw (e, k) (further o (eqb (length xs) (length ys)) (min (length xs) (length ys)))
+
+pair : (b : Bool) (x y : ℕ) (xs ys : List ℕ) → eqb x y ≡ b → option_or (position unlike (zip xs ys)) (ended xs ys) ≡ differ xs ys
+    → option_or (position unlike ((x, y) ∷ zip xs ys)) (ended (x ∷ xs) (y ∷ ys)) ≡ cond (eqb x y) (option_map suc (differ xs ys)) (Some 0)
+pair true x y xs ys t h =
+    ap (λ o. option_or o (ended (x ∷ xs) (y ∷ ys))) (first-later unlike (x, y) (zip xs ys) (ap not t))
+    ∙ end_further x y xs ys (position unlike (zip xs ys)) ∙ ap (option_map suc) h ∙ sym (rw t refl)
+pair false x y xs ys f h =
+    ap (λ o. option_or o (ended (x ∷ xs) (y ∷ ys))) (first-here unlike (x, y) (zip xs ys) (ap not f)) ∙ sym (rw f refl)
+
+pub differ_by : (xs ys : List ℕ) → option_or (position unlike (zip xs ys)) (ended xs ys) ≡ differ xs ys
+differ_by [] [] = refl
+differ_by [] (y ∷ ys) =
+    let e : eqb 0 (suc (length ys)) ≡ false = eqb-zero-suc (length ys) in
+    let k : min 0 (suc (length ys)) ≡ 0 = omega arith in
+    rw (e, k) refl
+differ_by (x ∷ xs) [] =
+    let e : eqb (suc (length xs)) 0 ≡ false = eqb-suc-zero (length xs) in
+    let k : min (suc (length xs)) 0 ≡ 0 = omega arith in
+    rw (e, k) refl
+differ_by (x ∷ xs) (y ∷ ys) = pair (eqb x y) x y xs ys refl (differ_by xs ys)

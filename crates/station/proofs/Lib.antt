@@ -1,9 +1,8 @@
-pub mod BigEnd
 pub mod Chains
 pub mod Checked
+pub mod First
 pub mod Differs
 pub mod Places
-pub mod Shift
 pub mod Taken
 pub mod Writing
 pub mod Sealed

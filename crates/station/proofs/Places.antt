@@ -1,10 +1,14 @@
 -- What follows from the place of a number's entry.
 -- Assumes nothing.
-use Rattle.std.proofs.Common.{◌≡◌, ℕ, zero, suc, ◌<◌, Bool, true, false, cond, eqb, ◌⊎◌, List, [], ◌∷◌, ◌++◌, length, get_or, take, drop, set, is_some, Some, None, Option, refl, ap, subst, inl, inr, ⊎_elim, le_of_suc-le-suc, not-suc-le-zero, arith, eq-eqb, ne_eqb}
-use Rattle.std.specs.Option.{option_map}
+use Rattle.std.proofs.Common.{◌≡◌, ℕ, suc, ◌<◌, Bool, true, false, cond, eqb, ◌⊎◌, List, [], ◌∷◌, ◌++◌, length, get_or, take, drop, set, is_some, Some, None, Ok, Err, Option, sym, refl, ap, ◌∙◌, subst, inl, inr, ⊎_elim, arith}
+use Rattle.std.specs.List.{position}
+use Rattle.std.specs.Option.{ok_or, option_map}
+use Rattle.answer.specs.declared.fault.Fault.{Fault}
+use Rattle.answer.specs.declared.fault.Fault.TheVariants.{NotHeld}
 use Rattle.station.specs.declared.entry.Entry.{Entry}
 use Rattle.station.specs.Book.{held_in, narrowed_in, retired_in, with_reach}
 use Rattle.station.specs.Items.{placed}
+use Rattle.station.proofs.First.{first-here, first-later}
 
 -- what an array's reads fall back to
 abbrev pub blank : Entry
@@ -60,23 +64,15 @@ pub off : (es : List Entry) (n : ℕ) → placed es n ≡ None → Off es n
 off [] n p = record { is_held = refl; is_narrowed = λ r. refl }
 off (e ∷ es) n p = let h = missed (eqb e.number n) (placed es n) p in off_next e es n h.0 (off es n h.1)
 
--- a search that has come to i
-pub hit : (es : List Entry) (n i : ℕ) → i < length es → placed (take i es) n ≡ None → (get_or es i blank).number ≡ n → placed es n ≡ Some i
-hit [] n i l p q = absurd (not-suc-le-zero l)
-hit (e ∷ es) n zero l p q = let t = eq-eqb e.number n q in rw t refl
-hit (e ∷ es) n (suc i) l p q =
-    let h = missed (eqb e.number n) (placed (take i es) n) p in
-    let f = h.0 in
-    rw f (ap (option_map suc) (hit es n i (le_of_suc-le-suc l) h.1 q))
+step : (e : Entry) (es : List Entry) (n : ℕ) (b : Bool) → eqb e.number n ≡ b → position (λ x. eqb x.number n) es ≡ placed es n
+    → position (λ x. eqb x.number n) (e ∷ es) ≡ placed (e ∷ es) n
+step e es n true t h = first-here (λ x. eqb x.number n) e es t ∙ sym (rw t refl)
+step e es n false f h = first-later (λ x. eqb x.number n) e es f ∙ ap (option_map suc) h ∙ sym (rw f refl)
 
-pub miss : (es : List Entry) (n i : ℕ) → i < length es → placed (take i es) n ≡ None → ((get_or es i blank).number ≡ n → ⊥)
-    → placed (take (suc i) es) n ≡ None
-miss [] n i l p q = absurd (not-suc-le-zero l)
-miss (e ∷ es) n zero l p q = let f = ne_eqb e.number n q in rw f refl
-miss (e ∷ es) n (suc i) l p q =
-    let h = missed (eqb e.number n) (placed (take i es) n) p in
-    let f = h.0 in
-    rw f (ap (option_map suc) (miss es n i (le_of_suc-le-suc l) h.1 q))
+-- the first place that passes the test
+pub is_placed : (n : ℕ) (es : List Entry) → position (λ x. eqb x.number n) es ≡ placed es n
+is_placed n [] = refl
+is_placed n (e ∷ es) = step e es n (eqb e.number n) refl (is_placed n es)
 
 by_place : (es : List Entry) (n : ℕ) (o : Option ℕ) → placed es n ≡ o → is_some (held_in es n) ≡ is_some o
 by_place es n None p = ap is_some (off es n p).is_held
@@ -84,3 +80,12 @@ by_place es n (Some i) p = ap is_some (at es n i p).is_held
 
 pub same_test : (es : List Entry) (n : ℕ) → is_some (held_in es n) ≡ is_some (placed es n)
 same_test es n = by_place es n (placed es n) refl
+
+-- the place that `ok_or` and `?` go on with, or do not
+pub went_on : (o : Option ℕ) (i : ℕ) → ok_or o NotHeld ≡ Ok i → o ≡ Some i
+went_on None i p = no_way (cc)
+went_on (Some j) i p = cc
+
+pub gave_up : (o : Option ℕ) (f : Fault) → ok_or o NotHeld ≡ Err f → (o ≡ None) × (f ≡ NotHeld)
+gave_up None f p = (refl, cc)
+gave_up (Some j) f p = no_way (cc)

@@ -1,6 +1,6 @@
 -- The frame: what seal writes and take hands over.
 -- Assumes nothing.
-use Rattle.std.specs.Prelude.{ℕ, suc, ◌+◌, ◌-◌, ◌*◌, ◌%◌, cond, ◌&&◌, List, [], ◌∷◌, ◌++◌, length, take, drop, Some, None, Ok, Err, Option, Result, ◌==◌, nat_le, nat_lt, slice_index}
+use Rattle.std.specs.Prelude.{ℕ, suc, ◌+◌, ◌-◌, ◌%◌, cond, ◌&&◌, List, [], ◌∷◌, ◌++◌, length, take, drop, Some, None, Ok, Err, Option, Result, ◌==◌, nat_le, nat_lt, slice_index}
 use Rattle.std.specs.Option.{option_map}
 use Rattle.answer.specs.declared.fault.Layer.TheVariants.{Book, Frame}
 use Rattle.answer.specs.Refusal.{Refusal, refusal}
@@ -9,15 +9,12 @@ use Rattle.poly.specs.Poly.{remainder}
 use Rattle.words.specs.Digits.{digits}
 use Rattle.code.specs.declared.description.Description.{Description}
 use Rattle.code.specs.Model.{Asked}
+pub use Rattle.code.specs.Coded.{coded, pair_at}
 use Rattle.station.specs.declared.entry.Entry.{Entry}
 use Rattle.station.specs.Layout.{layout}
 use Rattle.station.specs.Book.{PlainBook, held}
 
 -- ---- the head
-
--- A description in ten bytes, the larger numbers high byte first.
-abbrev pub coded : Description → List ℕ
-coded d = d.kind ∷ d.degree ∷ (digits 4 d.low ++ (d.degree2 ∷ (digits 2 d.low2 ++ (d.tuple ∷ []))))
 
 -- The remainder of a string under CRC-CCITT.
 unfoldable pub ccitt : List ℕ → ℕ
@@ -34,10 +31,6 @@ head n d w = front n d w ++ digits 2 (ccitt (front n d w))
 -- A frame: the head, the message, the check.
 abbrev pub frame : ℕ → Description → List ℕ → List ℕ → List ℕ
 frame n d message check = head n d (length message + length check) ++ (message ++ check)
-
--- Two bytes of a string as a number.
-abbrev pub pair_at : List ℕ → ℕ → ℕ
-pair_at f i = slice_index f i * 256 + slice_index f (i + 1)
 
 -- ---- seal and take
 

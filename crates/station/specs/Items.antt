@@ -1,6 +1,6 @@
--- What a table, a place and a lent part are, read as the plain book and plain lists.
+-- What a book, a place and a lent part are, read as the plain book and plain lists.
 -- Assumes nothing.
-use Rattle.std.specs.Prelude.{ℕ, suc, cond, not, List, [], ◌∷◌, length, take, is_some, Some, None, Ok, Err, Option, Result, ◌==◌, nat_lt}
+use Rattle.std.specs.Prelude.{ℕ, suc, cond, not, List, [], ◌∷◌, length, is_some, Some, None, Ok, Err, Option, Result, ◌==◌, nat_lt}
 use Rattle.std.specs.Borrow.{Bor}
 use Rattle.std.specs.Option.{option_map}
 use Rattle.answer.specs.declared.fault.Fault.{Fault}
@@ -8,12 +8,12 @@ use Rattle.answer.specs.declared.fault.Layer.TheVariants.{Book}
 use Rattle.answer.specs.Refusal.{Refusal, refusal, refusal_of}
 use Rattle.answer.specs.Rules.{then, need}
 use Rattle.station.specs.declared.entry.Entry.{Entry}
-use Rattle.station.specs.declared.table.Book.{Book as Table}
+use Rattle.station.specs.declared.book.Book.{Book as Kept}
 use Rattle.station.specs.Book.{PlainBook, book_of, held}
 
--- The entries of a table are its first `len`.
-abbrev pub items : Table → PlainBook
-items b = book_of (take b.len b.table)
+-- The plain book that a book is.
+abbrev pub items : Kept → PlainBook
+items b = book_of b.entries.items
 
 -- The place of the first entry with a number.
 abbrev pub placed : List Entry → ℕ → Option ℕ

@@ -1,5 +1,5 @@
-// The book: finding an entry, and the three changes of the table.
-ghost use Rattle.std.specs.Prelude.{◌≡◌, ◌<◌, IfSome};
+// The book: its entries, and the three changes of them.
+ghost use Rattle.std.specs.Prelude.{◌≡◌, ◌<◌, length, IfSome};
 ghost use Rattle.answer.specs.Refusal.{read, if_ok};
 ghost use Rattle.station.specs.Book.{empty_book, entered, narrowed, retired};
 ghost use Rattle.station.specs.Frame.{entry_at};
@@ -7,30 +7,21 @@ ghost use Rattle.station.specs.Calls.{retiring};
 ghost use Rattle.station.specs.Items.{items, placed, adding};
 
 use crate::entry::Entry;
-use crate::table::Book;
 use answer::fault::Fault;
-use code::description::Description;
+use arrayvec::ArrayVec;
 
-const BLANK: Entry = Entry {
-    number: 0,
-    description: Description {
-        kind: 0,
-        degree: 0,
-        low: 0,
-        degree2: 0,
-        low2: 0,
-        tuple: 0,
-    },
-    reach: 0,
-};
+// At most 16 entries, in the order in which they were entered.
+#[derive(Debug, Drop)]
+pub struct Book {
+    entries: ArrayVec<Entry, 16>,
+}
 
 impl Book {
     pub(crate) fn new() -> Book
         ensures { items result ≡ empty_book }
     {
         Book {
-            table: [BLANK; 16],
-            len: 0,
+            entries: ArrayVec::new(),
         }
     }
 
@@ -38,30 +29,26 @@ impl Book {
     pub(crate) fn entries(&self) -> &[Entry]
         ensures { result.now ≡ (items self.now).entries }
     {
-        &self.table[0..self.len]
+        self.entries.as_slice()
     }
 
     // The place of a number's entry.
     fn find(&self, number: u8) -> Option<usize>
         ensures is { result ≡ placed (items self.now).entries number }
-        ensures within { IfSome result (λ i. i < self.now.len) }
+        ensures within { IfSome result (λ i. i < length (items self.now).entries) }
     {
-        for i in 0..self.len {
-            if self.table[i].number == number {
-                return Some(i);
-            }
-        }
-        None
+        self.entries
+            .as_slice()
+            .iter()
+            .position(|entry| entry.number == number)
     }
 
     // A number's entry.
     pub(crate) fn get(&self, number: u8) -> Result<Entry, Fault>
         ensures { read result ≡ entry_at (items self.now) number }
     {
-        match self.find(number) {
-            Some(i) => Ok(self.table[i]),
-            None => Err(Fault::NotHeld),
-        }
+        let i = self.find(number).ok_or(Fault::NotHeld)?;
+        Ok(self.entries[i])
     }
 
     // One entry more, at the end.
@@ -72,11 +59,10 @@ impl Book {
         if self.find(entry.number).is_some() {
             return Err(Fault::InUse);
         }
-        if self.len >= 16 {
+        if self.entries.is_full() {
             return Err(Fault::Full);
         }
-        self.table[self.len] = entry;
-        self.len += 1;
+        self.entries.push(entry);
         Ok(())
     }
 
@@ -85,7 +71,7 @@ impl Book {
         ensures { items self.new ≡ narrowed (items self.old) number reach }
     {
         if let Some(i) = self.find(number) {
-            self.table[i].reach = reach;
+            self.entries[i].reach = reach;
         }
     }
 
@@ -94,16 +80,8 @@ impl Book {
         ensures answer { read result ≡ retiring (items self.old) number }
         ensures book { items self.new ≡ if_ok (retiring (items self.old) number) (retired (items self.old) number) (items self.old) }
     {
-        match self.find(number) {
-            Some(i) => {
-                let last = self.len - 1;
-                for k in i..last {
-                    self.table[k] = self.table[k + 1];
-                }
-                self.len = last;
-                Ok(())
-            }
-            None => Err(Fault::NotHeld),
-        }
+        let i = self.find(number).ok_or(Fault::NotHeld)?;
+        self.entries.remove(i);
+        Ok(())
     }
 }

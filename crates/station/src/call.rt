@@ -2,8 +2,9 @@
 use crate::station::Station;
 use answer::fault::Fault;
 use code::description::Description;
+use code::kind::Kind;
 
-#[derive(Clone, Copy)]
+#[derive(Clone, Copy, PartialEq, Eq, Debug)]
 pub enum Call<'a> {
     Enter {
         number: u8,
@@ -33,7 +34,7 @@ pub enum Call<'a> {
 }
 
 // The answer, with the output or the frame as it is afterwards.
-#[derive(Drop)]
+#[derive(Debug, Drop)]
 pub enum Outcome<'a> {
     Done(Result<(), Fault>),
     Wrote(Result<usize, Fault>, Vec<u8>),
@@ -43,7 +44,7 @@ pub enum Outcome<'a> {
 
 // A list of calls on a new station: what each gave, and the station afterwards.
 #[derive(Drop)]
-pub struct Ran<'a, K> {
+pub struct Ran<'a, K: Kind> {
     pub station: Station<K>,
     pub outcomes: Vec<Outcome<'a>>,
 }

@@ -6,15 +6,12 @@ pub(crate) fn first_difference(a: &[u8], b: &[u8]) -> Option<usize>
     ensures is { result ≡ differ a.now b.now }
     ensures within { IfSome result (λ i. i ≤ length a.now) }
 {
-    let short = a.len().min(b.len());
-    for i in 0..short {
-        if a[i] != b[i] {
-            return Some(i);
-        }
+    if let Some(i) = a.iter().zip(b).position(|(x, y)| x != y) {
+        return Some(i);
     }
     if a.len() == b.len() {
         None
     } else {
-        Some(short)
+        Some(a.len().min(b.len()))
     }
 }

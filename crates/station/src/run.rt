@@ -3,7 +3,6 @@ ghost use Rattle.std.specs.Prelude.{◌≡◌, true, false, is_ok, IfOk};
 ghost use Rattle.answer.specs.Refusal.{if_ok};
 ghost use Rattle.code.specs.Model.{asked};
 ghost use Rattle.station.specs.Calls.{answer, copies, step};
-ghost use Rattle.station.specs.Fitting.{Admitted, answer_fitting};
 ghost use Rattle.station.specs.Items.{items};
 ghost use Rattle.station.specs.Outcomes.{plain_call, outcome_seen};
 
@@ -15,8 +14,7 @@ use std::alloc::{AllocError, Global};
 impl<K: Kind> Station<K> {
     // Makes a call. The output and the frame are copies of what the call shows; without memory for them nothing is done. The other calls need none.
     pub fn perform<'a>(&mut self, heap: Global, call: Call<'a>) -> Result<Outcome<'a>, AllocError>
-        ensures answer { IfOk result (λ o. Admitted (asked (K.model self.old.bank)) (items self.old.book) → outcome_seen o ≡ answer (asked (K.model self.old.bank)) (items self.old.book) (plain_call call.entry)) }
-        ensures any { IfOk result (λ o. outcome_seen o ≡ answer_fitting (asked (K.model self.old.bank)) (items self.old.book) (plain_call call.entry)) }
+        ensures answer { IfOk result (λ o. outcome_seen o ≡ answer (asked (K.model self.old.bank)) (items self.old.book) (plain_call call.entry)) }
         ensures needs { copies (plain_call call.entry) ≡ false → is_ok result ≡ true }
         ensures book { items self.new.book ≡ if_ok result (step (asked (K.model self.old.bank)) (items self.old.book) (plain_call call.entry)) (items self.old.book) }
         ensures bank { K.model self.new.bank ≡ K.model self.old.bank }

@@ -8,9 +8,10 @@ ghost use Rattle.station.specs.Frame.{frame};
 use crate::checking::check_of;
 use crate::entry::Entry;
 use crate::head::head_of;
-use crate::measure::{check_fits, whole_message, within_reach, within_room};
+use crate::layout::SIZE;
 use crate::place::write_parts;
 use answer::fault::Fault;
+use answer::rules::need;
 use code::description::Description;
 use code::kind::Kind;
 
@@ -37,12 +38,15 @@ pub(crate) fn seal_by<K: Kind>(
     ensures written { out.new ≡ written (sealed_by (asked (K.model bank.old)) e number message.now (length out.old)) out.old }
     ensures same { K.model bank.new ≡ K.model bank.old }
 {
-    let s = bank.sheet(e.description)?;
-    whole_message(message.len(), s)?;
-    within_reach(message.len(), s.check, e.reach)?;
-    within_room(message.len(), s.check, out.len())?;
+    let sheet = bank.sheet(e.description)?;
+    let (length, room) = (message.len(), out.len());
+    let word = length + usize::from(sheet.check);
+    let whole = length.is_multiple_of(usize::from(sheet.tuple));
+    need(length > 0 && whole, Fault::Message(length))?;
+    need(word <= usize::from(e.reach), Fault::OverReach)?;
+    need(SIZE + word <= room, Fault::Output(room))?;
     let mut buffer = [0; 64];
     let check = check_of(bank, e.description, message, &mut buffer)?;
-    check_fits(check, s, out.len())?;
+    need(check.len() == usize::from(sheet.check), Fault::Output(room))?;
     Ok(write_frame(number, e.description, message, check, out))
 }

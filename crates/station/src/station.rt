@@ -5,22 +5,25 @@ ghost use Rattle.code.specs.Model.{asked, length_of, written};
 ghost use Rattle.station.specs.Book.{empty_book};
 ghost use Rattle.station.specs.Calls.{Call, Change, entering, narrowing, retiring, step};
 ghost use Rattle.station.specs.Frame.{sealed, taken};
-ghost use Rattle.station.specs.Fitting.{Admitted, sealed_fitting};
+ghost use Rattle.station.specs.Fitting.{Admitted};
 ghost use Rattle.station.specs.Items.{items, seen};
 
+use crate::book::Book;
 use crate::entry::Entry;
 use crate::parts::parts_of;
 use crate::sealing::seal_by;
-use crate::table::Book;
 use crate::taking::open;
 use answer::fault::Fault;
+use answer::rules::need;
 use code::description::Description;
 use code::kind::Kind;
 
+// The bank admits every entry of the book.
 #[derive(Drop)]
-pub struct Station<K> {
+pub struct Station<K: Kind> {
     bank: K,
     book: Book,
+    ghost admitted: { Admitted (asked (K.model bank)) (items book) },
 }
 
 impl<K: Kind> Station<K> {
@@ -62,9 +65,7 @@ impl<K: Kind> Station<K> {
         ensures bank { K.model self.new.bank ≡ K.model self.old.bank }
     {
         let e = self.book.get(number)?;
-        if reach >= e.reach {
-            return Err(Fault::NotBelow);
-        }
+        need(reach < e.reach, Fault::NotBelow)?;
         self.bank.admit(e.description, reach)?;
         self.book.lower(number, reach);
         Ok(())
@@ -79,27 +80,15 @@ impl<K: Kind> Station<K> {
         self.book.remove(number)
     }
 
-    // Seal at any book.
-    fn seal_fitting(&mut self, number: u8, message: &[u8], out: &mut [u8]) -> Result<usize, Fault>
-        ensures answer { read result ≡ length_of (sealed_fitting (asked (K.model self.old.bank)) (items self.old.book) number message.now (length out.old)) }
-        ensures written { out.new ≡ written (sealed_fitting (asked (K.model self.old.bank)) (items self.old.book) number message.now (length out.old)) out.old }
+    // Writes the frame of a message at the start of the output, and answers its length.
+    pub fn seal(&mut self, number: u8, message: &[u8], out: &mut [u8]) -> Result<usize, Fault>
+        ensures answer { read result ≡ length_of (sealed (asked (K.model self.old.bank)) (items self.old.book) number message.now (length out.old)) }
+        ensures written { out.new ≡ written (sealed (asked (K.model self.old.bank)) (items self.old.book) number message.now (length out.old)) out.old }
         ensures book { self.new.book ≡ self.old.book }
         ensures bank { K.model self.new.bank ≡ K.model self.old.bank }
     {
         let e = self.book.get(number)?;
         seal_by(&mut self.bank, e, number, message, out)
-    }
-
-    // Writes the frame of a message at the start of the output, and answers its length.
-    pub fn seal(&mut self, number: u8, message: &[u8], out: &mut [u8]) -> Result<usize, Fault>
-        ensures any { read result ≡ length_of (sealed_fitting (asked (K.model self.old.bank)) (items self.old.book) number message.now (length out.old)) }
-        ensures left { out.new ≡ written (sealed_fitting (asked (K.model self.old.bank)) (items self.old.book) number message.now (length out.old)) out.old }
-        ensures answer { Admitted (asked (K.model self.old.bank)) (items self.old.book) → read result ≡ length_of (sealed (asked (K.model self.old.bank)) (items self.old.book) number message.now (length out.old)) }
-        ensures written { Admitted (asked (K.model self.old.bank)) (items self.old.book) → out.new ≡ written (sealed (asked (K.model self.old.bank)) (items self.old.book) number message.now (length out.old)) out.old }
-        ensures book { self.new.book ≡ self.old.book }
-        ensures bank { K.model self.new.bank ≡ K.model self.old.bank }
-    {
-        self.seal_fitting(number, message, out)
     }
 
     // Hands over the part of the frame that is the message.

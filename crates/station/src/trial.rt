@@ -7,6 +7,7 @@ ghost use Rattle.station.specs.Items.{items};
 
 use crate::station::Station;
 use answer::fault::Fault;
+use answer::rules::need;
 use code::kind::Kind;
 
 // A frame with a byte in place of its own, which comes back when this is dropped.
@@ -61,9 +62,7 @@ impl<K: Kind> Station<K> {
         ensures book { self.new.book ≡ self.old.book }
         ensures bank { K.model self.new.bank ≡ K.model self.old.bank }
     {
-        if at >= frame.len() {
-            return Err(Fault::Outside(frame.len()));
-        }
+        need(at < frame.len(), Fault::Outside(frame.len()))?;
         self.take_planted(frame, at, byte)
     }
 }

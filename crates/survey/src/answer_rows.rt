@@ -1,36 +1,6 @@
 // Calls of a station: what is done, and with what.
 use code::description::Description;
-
-pub(crate) const HEC: Description = Description {
-    kind: 1,
-    degree: 8,
-    low: 0x07,
-    degree2: 0,
-    low2: 0,
-    tuple: 1,
-};
-
-pub(crate) const CRC_16: Description = Description {
-    degree: 16,
-    low: 0x8005,
-    ..HEC
-};
-
-const PARITY: Description = Description {
-    kind: 2,
-    degree: 15,
-    low: 0x0003,
-    ..HEC
-};
-
-const WSC: Description = Description {
-    kind: 3,
-    degree: 8,
-    low: 0x1D,
-    degree2: 5,
-    low2: 0x15,
-    tuple: 1,
-};
+use listing::descriptions::{CRC_16, HEC, PARITY, WSC};
 
 // A frame that is taken: 01 under number 5.
 pub(crate) const GOOD: [u8; 18] =

@@ -1,38 +1,28 @@
 // Every refusal of a line and of a station, through the call that gives it.
 use crate::answer_rows::*;
-use crate::show::Refused;
 use answer::fault::Fault;
-use code::bank::Bank;
 use code::description::Description;
 use code::kind::Kind;
 use console::line::{Line, line_of};
 use crc::crc_kind::Crc;
-use crc::parity_kind::CrcParity;
 use engine::engine::Engine;
 use engine::fast::Fast;
 use engine::table::Table;
+use kinds::three::{Kinds, three_kinds};
+use listing::descriptions::{CRC_16, HEC};
 use station::station::Station;
 use station::trial::*;
 use std::io;
-use weighted::weighted_kind::WeightedSum;
-
-type Kinds = Bank<Crc<Table>, Bank<CrcParity<Table>, WeightedSum>>;
 
 // Lines that are none, and the calls of the tables at one station; at last its book is full.
-pub(crate) fn answers(rt: &HostRuntime) -> io::Result<()> {
-    let mut station = Station::new(Bank::new(
-        Crc::new(<Table as engine::engine::Engine>::new()),
-        Bank::new(
-            CrcParity::new(<Table as engine::engine::Engine>::new()),
-            WeightedSum,
-        ),
-    ));
+pub(crate) fn answers(rt: &impl Print) -> io::Result<()> {
+    let mut station = Station::new(three_kinds::<Table>());
     lines(rt)?;
     println!(rt; "\nAnswers at a station")?;
     changes(rt, &mut station)?;
     frames(rt, &mut station)?;
     filled(rt, &mut station)?;
-    let mut fast = Station::new(Crc::new(<Fast as engine::engine::Engine>::new()));
+    let mut fast = Station::new(Crc::new(Fast::new()));
     said(
         rt,
         "CRC-16 entered over the fast engine",
@@ -40,7 +30,7 @@ pub(crate) fn answers(rt: &HostRuntime) -> io::Result<()> {
     )
 }
 
-fn lines(rt: &HostRuntime) -> io::Result<()> {
+fn lines(rt: &impl Print) -> io::Result<()> {
     println!(rt; "\nAnswers to lines")?;
     for (what, line) in &LINES {
         said(rt, what, line_of(line))?;
@@ -48,7 +38,7 @@ fn lines(rt: &HostRuntime) -> io::Result<()> {
     said(rt, "a line of 8227 bytes", line_of(&[b'F'; 8227]))
 }
 
-fn filled(rt: &HostRuntime, station: &mut Station<Kinds>) -> io::Result<()> {
+fn filled(rt: &impl Print, station: &mut Station<Kinds<Table>>) -> io::Result<()> {
     for number in 32..45u8 {
         let _ = station.enter(number, HEC, 15);
     }
@@ -59,7 +49,7 @@ fn filled(rt: &HostRuntime, station: &mut Station<Kinds>) -> io::Result<()> {
     )
 }
 
-fn changes(rt: &HostRuntime, station: &mut Station<Kinds>) -> io::Result<()> {
+fn changes(rt: &impl Print, station: &mut Station<Kinds<Table>>) -> io::Result<()> {
     for (what, number, description, reach) in &ENTERED {
         said(rt, what, station.enter(*number, *description, *reach))?;
     }
@@ -69,7 +59,7 @@ fn changes(rt: &HostRuntime, station: &mut Station<Kinds>) -> io::Result<()> {
     said(rt, "99 retired, which is not held", station.retire(0x99))
 }
 
-fn frames(rt: &HostRuntime, station: &mut Station<Kinds>) -> io::Result<()> {
+fn frames(rt: &impl Print, station: &mut Station<Kinds<Table>>) -> io::Result<()> {
     for (what, number, message, room) in &SEALED {
         said(rt, what, sealed(station, *number, message, *room))?;
     }
@@ -85,7 +75,7 @@ fn frames(rt: &HostRuntime, station: &mut Station<Kinds>) -> io::Result<()> {
 
 // Seals into an output of some bytes, at most 40.
 fn sealed(
-    station: &mut Station<Kinds>,
+    station: &mut Station<Kinds<Table>>,
     number: u8,
     message: &[u8],
     room: usize,
@@ -96,9 +86,9 @@ fn sealed(
 }
 
 // The number, and on a refusal its layer and its place.
-fn said<T: Drop>(rt: &HostRuntime, what: &str, answer: Result<T, Fault>) -> io::Result<()> {
+fn said<T: Drop>(rt: &impl Print, what: &str, answer: Result<T, Fault>) -> io::Result<()> {
     match answer {
         Ok(_) => println!(rt; "  {what}: 0"),
-        Err(fault) => println!(rt; "  {what}: {}", Refused { fault }),
+        Err(fault) => println!(rt; "  {what}: {fault}"),
     }
 }

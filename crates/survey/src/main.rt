@@ -5,30 +5,35 @@
 
 mod answer_rows;
 mod answers;
-mod codes;
-mod engines;
-mod generators;
-mod kinds;
+mod kinds_over;
 mod published;
-mod refusals;
-mod show;
 mod vectors;
 
 use answers::answers;
-use codes::codes;
-use engines::Engines;
-use generators::survey;
-use kinds::kinds;
-use refusals::refusals;
+use engine::bitwise::Bitwise;
+use engine::fast::Fast;
+use engine::ready_made::ReadyMade;
+use engine::table::Table;
+use kinds_over::kinds_over;
+use listing::asked::{Asked, Named};
+use listing::codes::codes;
+use listing::generators::generators;
+use listing::refusals::refusals;
+use slicing::slicing::Slicing;
 use std::io;
 use vectors::vectors;
 
 fn main(rt: HostRuntime) -> io::Result<()> {
-    let mut engines = Engines::start();
-    survey(&rt, &mut engines)?;
-    refusals(&rt, &mut engines)?;
+    let bitwise: Named<Bitwise> = Named::new("bitwise");
+    let table: Named<Table> = Named::new("table");
+    let ready_made: Named<ReadyMade> = Named::new("ready-made");
+    let fast: Named<Fast> = Named::new("fast");
+    let slicing: Named<Slicing> = Named::new("slicing");
+    let engines: &[&dyn Asked] = &[&bitwise, &table, &ready_made, &fast, &slicing];
+    generators(&rt, engines)?;
+    refusals(&rt)?;
     codes(&rt)?;
-    kinds(&rt, &engines)?;
-    vectors(&rt, &mut engines)?;
+    kinds_over(&rt, engines)?;
+    vectors(&rt, engines)?;
     answers(&rt)
 }

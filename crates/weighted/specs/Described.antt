@@ -1,11 +1,8 @@
--- The generators that a description of kind 3 names.
+-- The description that two generators and their tuple stand for.
 -- Assumes nothing.
-use Rattle.std.specs.Prelude.{◌≡◌}
 use Rattle.code.specs.declared.description.Description.{Description}
-use Rattle.weighted.specs.declared.weighted_kind.Generators.{Generators}
+use Rattle.code.specs.Catalogue.{described}
+use Rattle.weighted.specs.declared.weighted.Weighted.{Weighted}
 
-pub record Described (d : Description) (g : Generators) : Type 0 where
-  pub degree : g.first.degree ≡ d.degree
-  pub low : g.first.low ≡ d.low
-  pub degree2 : g.second.degree ≡ d.degree2
-  pub low2 : g.second.low ≡ d.low2
+abbrev pub description_of : Weighted → Description
+description_of w = described 3 w.first.degree w.first.low w.second.degree w.second.low w.tuple

@@ -2,4 +2,5 @@
 #![tactic(auto)]
 
 mod tuple_sums;
+mod weighted;
 pub mod weighted_kind;

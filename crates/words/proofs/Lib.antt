@@ -6,7 +6,5 @@ pub mod Weighted
 pub mod Members
 pub mod Head
 pub mod DigitBytes
-pub mod Evenness
 pub mod Groups
-pub mod NumberBytes
 pub mod Checks

@@ -9,13 +9,5 @@ pub fn checks_make_words() -> u8
     ensures parity { CrcParity-words }
     ensures weighted { Weighted-sums }
 {
-    words();
     0
 }
-
-// The theorems themselves.
-fn words()
-    ensures crc { Crc-words }
-    ensures parity { CrcParity-words }
-    ensures weighted { Weighted-sums }
-{}

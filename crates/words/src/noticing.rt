@@ -13,14 +13,5 @@ pub fn codes_notice() -> u8
     ensures parity { CrcParity-notices }
     ensures weighted { WeightedSum-notices }
 {
-    notices();
     0
 }
-
-// The theorems themselves.
-fn notices()
-    ensures crc { Crc-notices }
-    ensures even { Crc-even_notices }
-    ensures parity { CrcParity-notices }
-    ensures weighted { WeightedSum-notices }
-{}

@@ -1,7 +1,6 @@
 -- One byte's two digits more.
 -- Assumes nothing.
-use Rattle.std.proofs.Common.{arith, rules}
-use Rattle.std.proofs.lemmas.List.{take_all}
+use Rattle.std.proofs.Common.{arith}
 use Rattle.console.proofs.Digits.{hex_more}
 use Rattle.console.proofs.print.with_hex.Goals as goal
 
@@ -11,6 +10,3 @@ loop-b-preserved c = (
   omega arith,
   omega arith,
 )
-
-pub returns : goal.returns
-returns c = record { items = search (rules, take_all); len = omega arith; capacity = c.loop-b.invariant.2 }

@@ -71,14 +71,10 @@ loop-k-preserved c =
           c.loop-i.invariant a (omega arith),
     )
 
-pub returns : goal.returns
-returns c =
+pub returns-clause-next : goal.returns-clause-next
+returns-clause-next c =
     let g = c.args.generator in
     let x : ℕ = rem g.degree g.low (c.args.first * 2 ^ c.loop-k.k) in
     let all : c.loop-k.k ≡ c.args.rounds = omega arith in
-    record {
-      next =
-          ap₂ (λ p t. p / 2 ^ t) c.loop-k.invariant.1 c.loop-k.invariant.0 ∙ shl-shr x (32 - g.degree)
-          ∙ ap (λ n. rem g.degree g.low (c.args.first * 2 ^ n)) all;
-      entries = λ a l. c.loop-k.invariant.2 a (omega (arith, ap (λ n. 2 ^ n) all));
-    }
+    ap₂ (λ p t. p / 2 ^ t) c.loop-k.invariant.1 c.loop-k.invariant.0 ∙ shl-shr x (32 - g.degree)
+    ∙ ap (λ n. rem g.degree g.low (c.args.first * 2 ^ n)) all

@@ -1,6 +1,6 @@
 -- One byte more, and in the end the remainder of all of them.
 -- Assumes nothing.
-use Rattle.std.proofs.Common.{◌≡◌, ℕ, ◌≤◌, List, length, take, sym, ap, ◌∙◌, arith}
+use Rattle.std.proofs.Common.{◌≡◌, ℕ, ◌≤◌, List, length, take, ap, ◌∙◌, arith}
 use Rattle.std.proofs.lemmas.List.{take_all}
 use Rattle.engine.specs.Feed.{fed_all}
 use Rattle.engine.proofs.Feeding.{fed_all_more, fed_message}
@@ -22,21 +22,14 @@ loop-b-preserved g c =
 whole : (h low r s : ℕ) (bytes : List ℕ) (i : ℕ) → s ≡ fed_all h low r (take i bytes) → length bytes ≤ i → s ≡ fed_all h low r bytes
 whole h low r s bytes i e l = e ∙ ap (fed_all h low r) (take_all i bytes l)
 
-pub returns : goal.returns
-returns g c =
+pub returns-clause-answer : goal.returns-clause-answer
+returns-clause-answer g c =
     let e = g.E.Engine in
     let x = c.args.engine.now in
     let y = c.clear.new.self in
     let z = c.loop-b.engine in
     let cleared = c.clear.ensures in
-    let i = c.loop-b.invariant in
-    record {
-      answer =
-          c.value.ensures
-          ∙ fed_message (e.degree_of x) (e.low_of x) (e.degree_of y) (e.low_of y) (e.register_of y) (e.register_of z) c.args.message.now
-          (g.met.E.Engine.sound y).small cleared.degree cleared.low cleared.register
-          (whole (e.degree_of y) (e.low_of y) (e.register_of y) (e.register_of z) c.args.message.now c.loop-b.b-index i.2 (omega arith));
-      degree = i.0 ∙ cleared.degree;
-      low = i.1 ∙ cleared.low;
-      register = sym c.value.ensures;
-    }
+    c.value.ensures
+    ∙ fed_message (e.degree_of x) (e.low_of x) (e.degree_of y) (e.low_of y) (e.register_of y) (e.register_of z) c.args.message.now
+    (g.met.E.Engine.sound y).small cleared.degree cleared.low cleared.register
+    (whole (e.degree_of y) (e.low_of y) (e.register_of y) (e.register_of z) c.args.message.now c.loop-b.b-index c.loop-b.invariant.2 (omega arith))

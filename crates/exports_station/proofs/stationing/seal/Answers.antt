@@ -1,31 +1,37 @@
--- A book that changes made is admitted.
+-- The same call at the same station, over an output of the same length.
 -- Assumes nothing.
-use Rattle.std.proofs.Common.{◌≡◌, map, length, refl, ap, ◌∙◌, ap₂}
-use Rattle.code.specs.Model.{Model, asked, length_of, written}
-use Rattle.station.specs.Book.{PlainBook, empty_book}
-use Rattle.station.specs.Fitting.{sealed_fitting}
+use Rattle.std.proofs.Common.{◌≡◌, length, sym, refl, ap, ◌∙◌, ap₂, arith}
+use Rattle.code.specs.Model.{Model, asked, length_of}
+use Rattle.station.specs.Book.{PlainBook}
 use Rattle.station.specs.Frame.{sealed}
 use Rattle.station.specs.Items.{items}
-use Rattle.station.proofs.Admission.{run-admitted}
-use Rattle.station.proofs.Sealed.{bytes_known, fitting_sealed}
-use Rattle.exports_station.specs.Forms.{call_of, book_with}
+use Rattle.exports_station.proofs.Again.{wrote_again}
 use Rattle.exports_station.proofs.stationing.seal.Goals as goal
 
-pub returns : goal.returns
-returns g c =
-    let m = g.K.Kind.model c.args.bank in
-    let a = asked m in
-    let made = c.station_with-station in
-    let changes = c.args.changes.now in
+pub loop-init : goal.loop-init
+loop-init g c = (refl, refl, refl, refl)
+
+pub loop-preserved : goal.loop-preserved
+loop-preserved g c =
+    let m = g.K.Kind.model in
+    let first = c.seal-answer.ensures in
+    let again = c.seal-answer-in-loop.ensures in
+    let l = c.loop in
+    let s = c.args.station.now in
     let n = c.args.number in
     let message = c.args.message.now in
-    let out = c.args.out.now in
-    let room = length out in
-    let is : sealed_fitting (asked (g.K.Kind.model made.result.bank)) (items made.result.book) n message room ≡ sealed a (book_with a changes) n message room =
-    ap₂ (λ (k : Model) (b : PlainBook). sealed_fitting (asked k) b n message room) made.ensures.bank made.ensures.book
-    ∙ fitting_sealed m (g.met.K.Kind.keeps c.args.bank) (book_with a changes) (run-admitted a empty_book (map call_of changes) refl) n message
-    (bytes_known message c.type_inv.message) room in
-    record {
-      answer = c.seal_again.ensures.answer ∙ ap length_of is;
-      written = c.seal_again.ensures.written ∙ ap (λ x. written x out) is;
-    }
+    let room : length l.out ≡ length c.args.out.now = omega arith in
+    let x =
+    ap₂ (λ (k : Model) (b : PlainBook). sealed (asked k) b n message (length l.out)) (l.invariant.0 ∙ first.bank) (ap items (l.invariant.1 ∙ first.book))
+    ∙ ap (sealed (asked (m s.bank)) (items s.book) n message) room in (
+      again.bank ∙ l.invariant.0,
+      again.book ∙ l.invariant.1,
+      wrote_again _ _ c.args.out.now c.seal-answer.new.out l.out c.seal-answer-in-loop.new.out x first.written l.invariant.2 again.written,
+      again.answer ∙ ap length_of x ∙ sym first.answer,
+    )
+
+pub returns : goal.returns
+returns g c = record {
+  answer = c.loop.invariant.3 ∙ c.seal-answer.ensures.answer;
+  written = c.loop.invariant.2 ∙ c.seal-answer.ensures.written;
+}

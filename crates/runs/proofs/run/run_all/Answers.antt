@@ -1,6 +1,6 @@
 -- One call more, and in the end all of them.
 -- Assumes nothing.
-use Rattle.std.proofs.Common.{cond, List, [], ◌∷◌, ◌++◌, is_ok, vec_items, sym, refl, ap, ◌∙◌, subst, ap₂, arith, length-take}
+use Rattle.std.proofs.Common.{◌≤◌, cond, List, [], ◌∷◌, ◌++◌, length, is_ok, vec_items, sym, refl, ap, ◌∙◌, subst, ap₂, arith}
 use Rattle.std.proofs.lemmas.List.{take_all}
 use Rattle.code.specs.Model.{asked, Model}
 use Rattle.station.specs.declared.call.Call.{Call as Made}
@@ -14,6 +14,7 @@ use Rattle.station.specs.Fitting.{all_admitted}
 use Rattle.station.proofs.Admission.{run-admitted}
 use Rattle.runs.proofs.Numbers.{all_by_numbers}
 use Rattle.runs.proofs.EveryCall.{runs_by_rules}
+use Rattle.runs.proofs.Booked.{book_laws}
 use Rattle.runs.proofs.Runs.{turn}
 use Rattle.runs.proofs.run.run_all.Goals as goal
 
@@ -40,7 +41,6 @@ returns g c =
     let all = take_all l.call-index c.args.calls.now (omega arith) in
     let bank = ap m c.new-station.ensures.bank in
     let book = l.invariant.1 ∙ ap₂ (λ (k : Model) (cs : List Made). run (asked k) empty_book (plain_calls cs)) bank all in
-    let b = l.station.book in
     let calls = plain_calls c.args.calls.now in
     let outcomes = l.invariant.0 ∙ ap₂ (λ (k : Model) (cs : List Made). answers_from (asked k) empty_book (plain_calls cs)) bank all in
     record {
@@ -48,7 +48,7 @@ returns g c =
       book = book;
       bank = l.invariant.2 ∙ bank;
       admitted = ap (λ p. all_admitted (asked (m c.args.bank)) p.entries) book ∙ run-admitted (asked (m c.args.bank)) empty_book calls refl;
-      few = simp length-take (omega (arith, b.fits));
+      few = subst (λ p. length p.entries ≤ 16) (sym book) (book_laws (m c.args.bank) calls).most;
       numbers = λ numbered.
           subst (AllByNumbers calls) (sym outcomes)
           (all_by_numbers (m c.args.bank) (g.met.K.Kind.keeps c.args.bank) numbered empty_book tt calls);

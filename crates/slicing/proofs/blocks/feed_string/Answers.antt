@@ -27,7 +27,7 @@ pub loop-b-preserved : goal.loop-b-preserved
 loop-b-preserved c low small tables =
     let bytes = c.args.bytes.now in
     byte_more 32 low c.args.register (take (length bytes / 16 * 16) bytes) c.as_chunks.result.1.now c.loop-b.b-index c.loop-b.r
-    c.feed_byte-r.result (omega arith) (c.loop-b.invariant low small tables) (c.feed_byte-r.ensures low small (table_of low 16 c.args.t.now tables 0 (lit< tt)))
+    c.feed_byte-r.result (omega arith) (c.loop-b.invariant low small tables) (c.feed_byte-r.ensures low small (table_of low 16 c.args.tables.now tables 0 (lit< tt)))
 
 pub returns : goal.returns
 returns c low small tables =

@@ -7,9 +7,9 @@ use Rattle.slicing.proofs.blocks.feed_string.Given as goal
 
 abbrev pub invariant-loop-block : goal.invariant-loop-block
 invariant-loop-block l =
-    (low : ℕ) → low < 2 ^ 32 → Tables low 16 l.t → l.r ≡ fed_all 32 low l.register (take (l.block-index * 16) l.bytes)
+    (low : ℕ) → low < 2 ^ 32 → Tables low 16 l.tables → l.r ≡ fed_all 32 low l.register (take (l.block-index * 16) l.bytes)
 
 abbrev pub invariant-loop-b : goal.invariant-loop-b
 invariant-loop-b l =
-    (low : ℕ) → low < 2 ^ 32 → Tables low 16 l.t
+    (low : ℕ) → low < 2 ^ 32 → Tables low 16 l.tables
     → l.r ≡ fed_all 32 low l.register (take (length l.bytes / 16 * 16) l.bytes ++ take l.b-index l.rest)

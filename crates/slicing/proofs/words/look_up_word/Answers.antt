@@ -1,13 +1,20 @@
--- A word is that of its bytes.
+-- Four bytes are the sum of each at its place.
 -- Assumes nothing.
-use Rattle.std.proofs.Common.{ℕ, ◌*◌, ◌^◌, List, get_or, ap, ◌∙◌}
-use Rattle.poly.specs.Poly.{rem}
-use Rattle.slicing.specs.Tables.{word_of}
-use Rattle.slicing.proofs.Sixteen.{word_bytes}
+use Rattle.std.proofs.Common.{◌≡◌, ℕ, ◌+◌, ◌*◌, ◌<◌, [], get_or, refl, subst, arith}
+use Rattle.engine.specs.Tables.{Entries}
+use Rattle.slicing.proofs.Filling.{table_of}
+use Rattle.slicing.proofs.Sixteen.{four_is}
 use Rattle.slicing.proofs.words.look_up_word.Goals as goal
 
 pub returns : goal.returns
-returns c low k small e3 e2 e1 e0 =
-    c.look_up_bytes.ensures low k small e3 e2 e1 e0
-    ∙ ap (λ (b : List ℕ). rem 32 low (word_of (get_or b 0 0) (get_or b 1 0) (get_or b 2 0) (get_or b 3 0) * 2 ^ k)) c.to_be_bytes.ensures
-    ∙ ap (λ x. rem 32 low (x * 2 ^ k)) (word_bytes c.args.w c.ranges.w.fits)
+returns c low small tables =
+    let k = c.args.k in
+    let t = c.args.tables.now in
+    let w = c.args.word in
+    let at : (j n : ℕ) → j < 16 → 32 + 8 * j ≡ n → Entries 32 low n (get_or t j []) =
+    λ j n l e. subst (λ n. Entries 32 low n (get_or t j [])) e (table_of low 16 t tables j l) in
+    four_is low small (get_or t (k + 3) []) (get_or t (k + 2) []) (get_or t (k + 1) []) (get_or t k []) (32 + 8 * k)
+    (get_or w 0 0) (get_or w 1 0) (get_or w 2 0) (get_or w 3 0)
+    c.element_fits.fits c.element_fits2.fits c.element_fits3.fits c.element_fits4.fits
+    (at (k + 3) _ (omega arith) (omega arith)) (at (k + 2) _ (omega arith) (omega arith)) (at (k + 1) _ (omega arith) (omega arith))
+    (at k _ (omega arith) refl)

@@ -1,30 +1,38 @@
--- Where the strings stop agreeing, or do not.
+-- The first pair that differs, or else the end of the shorter string.
 -- Assumes nothing.
-use Rattle.std.proofs.Common.{◌≡◌, min, length, sym, ap, ◌∙◌, arith, take_all}
-use Rattle.std.proofs.lemmas.List.{take_more_same}
-use Rattle.station.specs.Frame.{differ}
-use Rattle.station.proofs.Differs.{differ_same, differ_at, differ_end}
+use Rattle.std.proofs.Common.{◌≡◌, length, Some, sym, refl, ap, ◌∙◌, rules, tests, eq-eqb, ne_eqb}
+use Rattle.std.specs.List.{position, zip}
+use Rattle.std.specs.Option.{option_or}
+use Rattle.std.proofs.lemmas.Iterator.{YieldsList-from_slice, YieldsList-from_zip}
+use Rattle.std.proofs.lemmas.Iterator.Search.{position_from_yields_List}
+use Rattle.station.proofs.Differs.{unlike, ended, differ_by}
 use Rattle.station.proofs.difference.first_difference.Goals as goal
 
-pub returns-then-a-i : goal.returns-then-a-i
-returns-then-a-i c = record { is = sym (differ_at c.args.a.now c.args.b.now c.loop-i.i (omega arith) (omega arith) c.loop-i.invariant c.if-a-i.true); within = omega arith }
-
-pub loop-i-preserved : goal.loop-i-preserved
-loop-i-preserved c = take_more_same c.args.a.now c.args.b.now c.loop-i.i 0 (omega arith) (omega arith) c.loop-i.invariant c.if-a-i.false
-
-pub returns-then-a-b : goal.returns-then-a-b
-returns-then-a-b c =
+pub returns-in-Some-clause-is : goal.returns-in-Some-clause-is
+returns-in-Some-clause-is c =
     let a = c.args.a.now in
     let b = c.args.b.now in
-    let i = c.loop-i.i in
-    let same : a ≡ b = sym (take_all i a (omega arith)) ∙ c.loop-i.invariant ∙ take_all i b (omega arith) in
-    record { is = sym (ap (λ x. differ x b) same ∙ differ_same b); within = tt }
+    let p : c.position.result ≡ position unlike (zip a b) =
+    position_from_yields_List unlike c.position.new.self _ c.position.result c.position.ensures.ran
+    (YieldsList-from_zip (YieldsList-from_slice a cc) (YieldsList-from_slice b cc)) (λ x t q k. search (rules, tests)) in
+    ap (λ o. option_or o (ended a b)) (sym c.in-Some.is ∙ p) ∙ differ_by a b
 
-pub returns-else-a-b : goal.returns-else-a-b
-returns-else-a-b c =
+pub returns-then-a-b-clause-is : goal.returns-then-a-b-clause-is
+returns-then-a-b-clause-is c =
     let a = c.args.a.now in
     let b = c.args.b.now in
-    let i = c.loop-i.i in
-    let q : c.min-short.result ≡ i = omega arith in
-    let m : c.min-short.result ≡ min (length a) (length b) = c.min-short.ensures in
-    record { is = rw q (sym (differ_end a b i (omega arith) c.loop-i.invariant c.if-a-b.false)); within = omega arith }
+    let p : c.position.result ≡ position unlike (zip a b) =
+    position_from_yields_List unlike c.position.new.self _ c.position.result c.position.ensures.ran
+    (YieldsList-from_zip (YieldsList-from_slice a cc) (YieldsList-from_slice b cc)) (λ x t q k. search (rules, tests)) in
+    let t = eq-eqb (length a) (length b) c.if-a-b.true in
+    sym (rw t refl) ∙ ap (λ o. option_or o (ended a b)) (sym c.in_default.is ∙ p) ∙ differ_by a b
+
+pub returns-else-a-b-clause-is : goal.returns-else-a-b-clause-is
+returns-else-a-b-clause-is c =
+    let a = c.args.a.now in
+    let b = c.args.b.now in
+    let p : c.position.result ≡ position unlike (zip a b) =
+    position_from_yields_List unlike c.position.new.self _ c.position.result c.position.ensures.ran
+    (YieldsList-from_zip (YieldsList-from_slice a cc) (YieldsList-from_slice b cc)) (λ x t q k. search (rules, tests)) in
+    let f = ne_eqb (length a) (length b) c.if-a-b.false in
+    ap Some c.min.ensures ∙ sym (rw f refl) ∙ ap (λ o. option_or o (ended a b)) (sym c.in_default.is ∙ p) ∙ differ_by a b

@@ -1,76 +1,56 @@
 -- One tuple a turn, and in the end all of them.
 -- Assumes nothing.
-use Rattle.std.proofs.Common.{◌≡◌, ℕ, ◌/◌, ◌^◌, ◌<◌, map, length, sym, ap, ◌∙◌, subst, ap₂, arith}
-use native.Mathlib.Nat.{zero-mod}
+use Rattle.std.proofs.Common.{◌≡◌, ℕ, ◌+◌, ◌-◌, ◌*◌, ◌/◌, ◌%◌, ◌^◌, ◌<◌, List, [], ◌∷◌, ◌++◌, map, length, take, get_or, sym, ap, ◌∙◌, subst, zero-mul, refl, arith}
+use lib.Bits.{bit_xor}
+use lib.Pow.{shl-shr}
+use Rattle.std.proofs.lemmas.List.{take_more, take_all, map_push}
 use Rattle.poly.specs.Poly.{rem, string}
-use Rattle.poly.proofs.Division.{rem_lt}
+use Rattle.poly.proofs.Division.{rem-zero}
 use Rattle.words.specs.Words.{weighted, plain}
-use Rattle.words.specs.Tuples.{groups}
-use Rattle.code.proofs.WeightedFit.{sized}
-use Rattle.weighted.proofs.WeightedCheck.{low_fits}
-use Rattle.weighted.proofs.SumSteps.{tuple_fits, whole_more, plain_more, weighted_more, weighted-none, plain-none}
+use Rattle.words.specs.Tuples.{tuples}
+use Rattle.words.proofs.Members.{plain_push}
+use Rattle.weighted.proofs.SumSteps.{weighted_more, chunks_are}
 use Rattle.weighted.proofs.tuple_sums.add_up.Goals as goal
 
-pub loop-at-init : goal.loop-at-init
-loop-at-init c =
-    let g = c.args.generator in
-    let small = low_fits g.degree g.low c.degree-degree.result c.low-low.result c.degree-degree.ensures c.low-low.ensures g.ok.2 in (
-      omega arith,
-      zero-mod c.args.tuple,
-      weighted-none c.degree-degree.result c.low-low.result c.args.tuple c.args.message.now small,
-      plain-none c.args.tuple c.args.message.now,
-    )
+pub loop-tuple-init : goal.loop-tuple-init
+loop-tuple-init g c =
+    let p = c.args.generator in
+    let up : ℕ = 2 ^ (32 - 8 * g.row.N) in
+    (sym (ap (λ x. x * up) (rem-zero p.degree p.low p.ok.2) ∙ zero-mul up), refl)
 
-pub number_at-q-requires : goal.number_at-q-requires
-number_at-q-requires c = (
-  c.requires.0,
-  tuple_fits c.args.tuple c.loop-at.at c.args.message.now (sized c.args.tuple c.requires.0).0 c.loop-at.invariant.1
-      c.requires.1.1 c.loop-at-test.true,
-)
-
-pub step-horner-requires : goal.step-horner-requires
-step-horner-requires c =
-    let g = c.args.generator in
-    let e = c.degree-degree.ensures in
-    let k = g.ok in
-    let h : ℕ = c.degree-degree.result in
-    let small : c.low-low.result < 2 ^ h = low_fits g.degree g.low h c.low-low.result e c.low-low.ensures g.ok.2 in (
-      omega arith,
-      (
-        omega arith,
-        (small, subst (λ x. x < 2 ^ h) (sym c.loop-at.invariant.2) (rem_lt h c.low-low.result small _)),
-      ),
-    )
-
-pub loop-at-preserved : goal.loop-at-preserved
-loop-at-preserved c =
-    let g = c.args.generator in
-    let s : ℕ = c.args.tuple in
-    let at : ℕ = c.loop-at.at in
-    let message = c.args.message.now in
-    let h : ℕ = c.degree-degree.result in
-    let low : ℕ = c.low-low.result in
-    let q : ℕ = c.number_at-q.result in
-    let i = c.loop-at.invariant in
-    let s1 = (sized s c.requires.0).0 in
-    let small : low < 2 ^ h = low_fits g.degree g.low h low c.degree-degree.ensures c.low-low.ensures g.ok.2 in
-    let lq : q < 2 ^ h = subst (λ n. q < 2 ^ n) (sym (c.degree-degree.ensures ∙ c.requires.1.0)) c.number_at-q.ensures.below in (
-      tuple_fits s at message s1 i.1 c.requires.1.1 c.loop-at-test.true,
-      whole_more s at message s1 i.1,
-      weighted_more s at message s1 i.1 h low c.loop-at.horner q c.step-horner.result small lq i.2
-          c.number_at-q.ensures.number c.step-horner.ensures,
-      plain_more s at message s1 i.1 c.loop-at.total q i.3 c.number_at-q.ensures.number,
+pub loop-tuple-preserved : goal.loop-tuple-preserved
+loop-tuple-preserved g c =
+    let p = c.args.generator in
+    let up : ℕ = 32 - 8 * g.row.N in
+    let i : ℕ = c.loop-tuple.tuple-index in
+    let q : ℕ = c.number-q.result in
+    let cs = c.as_chunks.result.0.now in
+    let t = c.tuple-item.result in
+    let qs : List ℕ = map (string 8) (take i cs) in
+    let more : map (string 8) (take (i + 1) cs) ≡ qs ++ q ∷ [] =
+    ap (map (string 8)) (take_more cs i t c.loop-tuple-test.true) ∙ map_push (string 8) (take i cs) (get_or cs i t)
+    ∙ ap (λ x. qs ++ x ∷ []) (ap (string 8) (sym c.tuple-item.is) ∙ sym c.number-q.ensures.number) in
+    let below : q < 2 ^ p.degree = subst (λ n. q < 2 ^ n) (sym c.requires.1) c.number-q.ensures.below in (
+      weighted_more p.degree p.low p.ok.2 p.ok.1 up (c.low.result * 2 ^ up % 2 ^ 32) (ap (λ n. 32 - n) (sym c.requires.1))
+          (ap (λ x. x * 2 ^ up % 2 ^ 32) c.low.ensures) qs q c.loop-tuple.horner c.twice_at_top.result below
+          c.loop-tuple.invariant.0 c.twice_at_top.ensures
+          ∙ ap (λ qs. rem p.degree p.low (weighted qs) * 2 ^ up) (sym more),
+      ap (λ x. bit_xor x q) c.loop-tuple.invariant.1 ∙ sym (plain_push qs q) ∙ ap plain (sym more),
     )
 
 pub returns : goal.returns
-returns c =
-    let s : ℕ = c.args.tuple in
+returns g c =
+    let p = c.args.generator in
+    let up : ℕ = 32 - 8 * g.row.N in
     let message = c.args.message.now in
-    let i = c.loop-at.invariant in
-    let all : c.loop-at.at ≡ length message = omega arith in
+    let i : ℕ = c.loop-tuple.tuple-index in
+    let cs = c.as_chunks.result.0.now in
+    let all : map (string 8) (take i cs) ≡ tuples g.row.N message =
+    ap (map (string 8)) (take_all i cs (omega arith) ∙ c.as_chunks.ensures.front ∙ chunks_are g.row.N (length message / g.row.N) message) in
     record {
       horner =
-          i.2 ∙ ap₂ (λ h low. rem h low (weighted (map (string 8) (groups (c.loop-at.at / s) s message)))) c.degree-degree.ensures c.low-low.ensures
-          ∙ ap (λ n. rem c.args.generator.degree c.args.generator.low (weighted (map (string 8) (groups (n / s) s message)))) all;
-      total = i.3 ∙ ap (λ n. plain (map (string 8) (groups (n / s) s message))) all;
+          ap (λ y. y / 2 ^ up) c.loop-tuple.invariant.0
+          ∙ shl-shr (rem p.degree p.low (weighted (map (string 8) (take i cs)))) up
+          ∙ ap (λ qs. rem p.degree p.low (weighted qs)) all;
+      total = c.loop-tuple.invariant.1 ∙ ap plain all;
     }

@@ -1,16 +1,11 @@
--- Before each turn: both sums of the tuples before `at`, which is a multiple of the tuple.
+-- After i turns: both sums of the first i tuples, the weighted one at the top.
 -- Assumes nothing.
-use Rattle.std.proofs.Common.{◌≡◌, ◌-◌, ◌/◌, ◌%◌, ◌≤◌, map, length}
+use Rattle.std.proofs.Common.{◌≡◌, ◌*◌, ◌^◌, map, take}
 use Rattle.poly.specs.Poly.{rem, string}
 use Rattle.words.specs.Words.{weighted, plain}
-use Rattle.words.specs.Tuples.{groups}
 use Rattle.weighted.proofs.tuple_sums.add_up.Given as goal
 
-abbrev pub invariant-loop-at : goal.invariant-loop-at
-invariant-loop-at l =
-    let qs = map (string 8) (groups (l.at / l.tuple) l.tuple l.message) in
-    (l.at ≤ length l.message) × (l.at % l.tuple ≡ 0)
-    × (l.horner ≡ rem l.degree l.low (weighted qs)) × (l.total ≡ plain qs)
-
-abbrev pub decreases-loop-at : goal.decreases-loop-at
-decreases-loop-at l = length l.message - l.at
+abbrev pub invariant-loop-tuple : goal.invariant-loop-tuple
+invariant-loop-tuple g l =
+    let qs = map (string 8) (take l.tuple-index l.tuples) in
+    (l.horner ≡ rem l.fn.generator.degree l.fn.generator.low (weighted qs) * 2 ^ l.up) × (l.total ≡ plain qs)

@@ -1,8 +1,6 @@
 -- One byte more, and in the end all of them.
 -- Assumes nothing.
-use Rattle.std.proofs.Common.{ap, ◌∙◌, arith}
-use Rattle.std.proofs.lemmas.List.{take_all}
-use Rattle.engine.specs.Feed.{fed_all}
+use Rattle.std.proofs.Common.{◌∙◌, arith}
 use Rattle.engine.proofs.Feeding.{fed_all_more}
 use Rattle.engine.proofs.engine.Engine.feed_all.Goals as goal
 
@@ -17,17 +15,3 @@ loop-b-preserved g c =
           (e.register_of c.feed.new.self) (omega arith) i.2 i.0 i.1 c.feed.ensures.register,
       c.feed.ensures.carries ∙ i.3,
     )
-
-pub returns : goal.returns
-returns g c =
-    let e = g.Self.Engine in
-    let i = c.loop-b.invariant in
-    record {
-      degree = i.0;
-      low = i.1;
-      register =
-          i.2
-          ∙ ap (fed_all (e.degree_of c.args.self.now) (e.low_of c.args.self.now) (e.register_of c.args.self.now))
-          (take_all c.loop-b.b-index c.args.bytes.now (omega arith));
-      carries = i.3;
-    }

@@ -3,16 +3,8 @@
 use Rattle.engine.proofs.Feeding.{holds_none}
 use Rattle.engine.proofs.running.RunningCheck.begin.Goals as goal
 
-pub returns : goal.returns
-returns g c =
+pub returns-clause-nothing : goal.returns-clause-nothing
+returns-clause-nothing g c =
     let e = g.E.Engine in
-    let r = c.clear.ensures in
-    record {
-      degree = r.degree;
-      low = r.low;
-      register = r.register;
-      carries = r.carries;
-      nothing =
-          holds_none (e.degree_of c.args.engine) (e.low_of c.args.engine) (e.register_of c.clear.new.self)
-          (g.met.E.Engine.sound c.args.engine).small r.register;
-    }
+    holds_none (e.degree_of c.args.engine) (e.low_of c.args.engine) (e.register_of c.clear.new.self)
+    (g.met.E.Engine.sound c.args.engine).small c.clear.ensures.register

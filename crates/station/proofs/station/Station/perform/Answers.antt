@@ -5,7 +5,6 @@ use Rattle.answer.specs.Refusal.{read}
 use Rattle.code.specs.Model.{asked}
 use Rattle.station.specs.Items.{items}
 use Rattle.station.specs.Calls.{answer, step}
-use Rattle.station.specs.Fitting.{sealed_fitting, answer_fitting}
 use Rattle.station.specs.Frame.{sealed}
 use Rattle.station.specs.Outcomes.{plain_call}
 use Rattle.station.proofs.Copied.{wrote_copy, tried_copy}
@@ -20,14 +19,10 @@ returns-in_ok-copy-in-Seal g c =
     let same = c.as_mut_slice.ensures.value ∙ c.in_ok-copy-in-Seal.ensures.items_if_clones_equal (λ x y h. h) in
     let long : length s.new.out ≡ copy.len = search rules in
     record {
-      answer = λ h.
+      answer =
           wrote_copy (sealed a b c.in-Seal.number c.in-Seal.message.now) c.in-Seal.out.now c.as_mut_slice.result.now s.new.out
-          (drop (length s.new.out) copy.items) (read s.result) copy.len same long (s.ensures.answer h) (s.ensures.written h)
+          (drop (length s.new.out) copy.items) (read s.result) copy.len same long s.ensures.answer s.ensures.written
           ∙ ap (λ k. answer a b (plain_call k)) (sym c.in-Seal.is);
-      any =
-          wrote_copy (sealed_fitting a b c.in-Seal.number c.in-Seal.message.now) c.in-Seal.out.now c.as_mut_slice.result.now s.new.out
-          (drop (length s.new.out) copy.items) (read s.result) copy.len same long s.ensures.any s.ensures.left
-          ∙ ap (λ k. answer_fitting a b (plain_call k)) (sym c.in-Seal.is);
       needs = λ _. refl;
       book = ap items s.ensures.book ∙ ap (λ k. step a b (plain_call k)) (sym c.in-Seal.is);
       bank = s.ensures.bank;
@@ -45,8 +40,7 @@ returns-in_ok-copy-in-Trial g c =
     tried_copy a b c.in-Trial.frame.now c.as_mut_slice-in-Trial.result.now s.new.frame c.in-Trial.at c.in-Trial.byte
     (drop (length s.new.frame) copy.items) (read s.result) copy.len same long s.ensures.answer s.ensures.back in
     record {
-      answer = λ h. did ∙ ap (λ k. answer a b (plain_call k)) (sym c.in-Trial.is);
-      any = did ∙ ap (λ k. answer_fitting a b (plain_call k)) (sym c.in-Trial.is);
+      answer = did ∙ ap (λ k. answer a b (plain_call k)) (sym c.in-Trial.is);
       needs = λ _. refl;
       book = ap items s.ensures.book ∙ ap (λ k. step a b (plain_call k)) (sym c.in-Trial.is);
       bank = s.ensures.bank;

@@ -16,7 +16,7 @@ returns-in_err-parts g c =
     (record {
       answer =
           taken_refused a (items c.args.self.now.book) c.args.frame.now (refusal_of c.in_err-parts.field-0.0)
-          c.in_err-parts.ensures.parts;
+          c.in_err-parts.ensures;
       book = refl;
       bank = refl;
     })

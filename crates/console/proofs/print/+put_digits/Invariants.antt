@@ -1,6 +1,0 @@
--- The number itself falls.
--- Assumes nothing.
-use Rattle.console.proofs.print.+put_digits.Given as goal
-
-abbrev pub decreases-put_digits : goal.decreases-put_digits
-decreases-put_digits l = l.n

@@ -1,9 +1,0 @@
--- Every time the bank means the same, the output stands as it was first written, and so does the answer.
--- Assumes nothing.
-use Rattle.std.proofs.Common.{◌≡◌}
-use Rattle.answer.specs.Refusal.{read}
-use Rattle.exports_station.proofs.calls.check.Given as goal
-
-abbrev pub invariant-loop : goal.invariant-loop
-invariant-loop g l =
-    (g.K.Kind.model l.bank ≡ g.K.Kind.model l.initial.bank) × (l.out ≡ l.initial.out) × (read l.answer ≡ read l.initial.answer)
