@@ -1,7 +1,7 @@
 -- A number that has room in an output is there.
 -- Assumes nothing.
-use Rattle.std.proofs.Common.{◌≡◌, ℕ, ◌+◌, ◌*◌, ◌^◌, ◌<◌, ◌≤◌, true, cond, ◌&&◌, ltb, leb, List, ◌++◌, length, take, drop, ap}
-use Rattle.std.proofs.lemmas.Bool.{leb-true, ltb-true, le-leb, lt-ltb, and_parts}
+use Rattle.std.proofs.Common.{◌≡◌, ℕ, ◌+◌, ◌*◌, ◌^◌, ◌<◌, ◌≤◌, true, cond, List, ◌++◌, length, take, drop, ap}
+use Rattle.std.proofs.lemmas.Bool.{le-leb, lt-ltb}
 use Rattle.words.specs.Digits.{digits}
 use Rattle.code.specs.Output.{has_room, with_number}
 
@@ -16,9 +16,3 @@ pub put_is : (out : List ℕ) (at count value : ℕ) → count ≤ 4 → at + co
     → with_number out at count value ≡ take at out ++ (digits count value ++ drop (at + count) out)
 put_is out at count value few fits below =
     ap (λ b. cond b (take at out ++ (digits count value ++ drop (at + count) out)) out) (has_room_lem (length out) at count value few fits below)
-
-pub room_is : (room at count value : ℕ) → has_room room at count value ≡ true → (count ≤ 4) × (at + count ≤ room) × (value < 2 ^ (8 * count))
-room_is room at count value e =
-    let p = and_parts (leb count 4 && leb (at + count) room) (ltb value (2 ^ (8 * count))) e in
-    let q = and_parts (leb count 4) (leb (at + count) room) p.0 in
-    (leb-true count 4 q.0, leb-true (at + count) room q.1, ltb-true value (2 ^ (8 * count)) p.1)

@@ -7,7 +7,7 @@ use crate::description::{Description, Sheet};
 use crate::kind::Kind;
 use answer::fault::Fault;
 
-#[derive(Drop)]
+#[derive(Debug, Drop)]
 pub struct Bank<L, R> {
     left: L,
     right: R,

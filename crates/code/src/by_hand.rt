@@ -7,5 +7,6 @@ pub fn samples_right() -> u8
     ensures answer { result ≡ 0 }
     ensures samples { SamplesRight }
 {
+    // A number: of () every body is right, and so no wrong one could be told from this.
     0
 }

@@ -1,4 +1,4 @@
-// Numbers in bytes, high byte first.
+// Numbers in bytes, high byte first; and the sum of bytes, which is no number in bytes but reads them as they come.
 ghost use Rattle.std.specs.Prelude.{◌≡◌, ◌+◌, ◌*◌, ◌^◌, ◌<◌, ◌≤◌, ◌++◌, length, take, drop};
 ghost use Rattle.words.specs.Digits.{digits};
 ghost use Rattle.words.specs.Words.{plain};
@@ -6,7 +6,8 @@ ghost use Rattle.code.specs.Output.{has_room, with_number};
 
 use crate::fields::short;
 
-// Writes a number in `count` bytes at a place of an output, and keeps the rest; where it has no room there, all is kept.
+// Writes a number in `count` bytes at a place of an output, and keeps the rest; where it has no room there, all is kept: so no
+// condition is left to a caller.
 pub fn put(out: &mut [u8], at: usize, count: usize, value: u32)
     ensures { out.new ≡ with_number out.old at count value }
 {

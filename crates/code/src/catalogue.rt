@@ -4,7 +4,8 @@ ghost use Rattle.code.specs.Catalogue.{published_of};
 
 use crate::description::Description;
 
-const CRC_16: Description = Description {
+/// CRC-16
+pub const CRC_16: Description = Description {
     kind: 1,
     degree: 16,
     low: 0x8005,
@@ -13,42 +14,49 @@ const CRC_16: Description = Description {
     tuple: 1,
 };
 
-const CRC_CCITT: Description = Description {
+/// CRC-CCITT
+pub const CRC_CCITT: Description = Description {
     low: 0x1021,
     ..CRC_16
 };
 
-const IEEE_802: Description = Description {
+/// IEEE-802
+pub const IEEE_802: Description = Description {
     degree: 32,
     low: 0x04C1_1DB7,
     ..CRC_16
 };
 
-const ATM_HEC: Description = Description {
+/// ATM-HEC
+pub const ATM_HEC: Description = Description {
     degree: 8,
     low: 0x07,
     ..CRC_16
 };
 
-const FAST_16: Description = Description {
+/// FAST-16
+pub const FAST_16: Description = Description {
     low: 0x011B,
     ..CRC_16
 };
 
-const LONG_24: Description = Description {
+/// LONG-24
+pub const LONG_24: Description = Description {
     degree: 24,
     low: 0x01_8301,
     ..CRC_16
 };
 
-const PARITY_16: Description = Description {
+/// PARITY-16
+pub const PARITY_16: Description = Description {
     kind: 2,
     degree: 15,
     low: 0x0003,
     ..CRC_16
 };
 
-const WSC_8: Description = Description {
+/// WSC-8
+pub const WSC_8: Description = Description {
     kind: 3,
     degree: 8,
     low: 0x1D,
@@ -56,6 +64,18 @@ const WSC_8: Description = Description {
     low2: 0x15,
     tuple: 1,
 };
+
+/// The names that `published` knows.
+pub const NAMES: [&str; 8] = [
+    "CRC-16",
+    "CRC-CCITT",
+    "IEEE-802",
+    "ATM-HEC",
+    "FAST-16",
+    "LONG-24",
+    "PARITY-16",
+    "WSC-8",
+];
 
 // The description that is published under a name, or none.
 pub fn published(name: &str) -> Option<Description>

@@ -1,6 +1,7 @@
 // What a code is described by, and what it promises.
 
-// A code as a site enters it. Fields that a kind does not use are zero.
+// A code as a site enters it. Fields that a kind does not use are zero. It crosses to C as it is.
+#[repr(C)]
 #[derive(Clone, Copy, Default, PartialEq, Eq, Debug)]
 pub struct Description {
     // a number: anyone may add a kind under one of its own, and a site may type in any

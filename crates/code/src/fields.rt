@@ -16,10 +16,7 @@ use poly::generator::Generator;
 pub fn at_least(period: Option<u16>, need: u16) -> bool
     ensures { result ≡ at_least period need }
 {
-    match period {
-        Some(found) => need <= found,
-        None => true,
-    }
+    period.is_none_or(|found| need <= found)
 }
 
 // Whether a number has no bit from the degree on.

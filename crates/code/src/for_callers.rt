@@ -13,6 +13,7 @@ pub fn callers_compare() -> u8
     ensures parity { ParityMatchesForCallers }
     ensures parity_same { ParityMeansTheSameForCallers }
 {
+    // A number: of () every body is right, and so no wrong one could be told from this.
     0 // of banks and of kinds over engines
 }
 
@@ -30,5 +31,6 @@ pub fn callers_comparing_is_sound() -> u8
     ensures same_symmetric { SameSymmetricForCallers }
     ensures same_transitive { SameTransitiveForCallers }
 {
+    // A number, as above.
     0 // of the two relations
 }

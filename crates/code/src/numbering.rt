@@ -10,5 +10,6 @@ pub fn kinds_are_numbered() -> u8
     ensures weighted { WeightedNumbered }
     ensures bank { JoinedNumbered }
 {
+    // A number: of () every body is right, and so no wrong one could be told from this.
     0
 }

@@ -15,5 +15,6 @@ pub fn comparing_is_sound() -> u8
     ensures same_symmetric { SameSymmetric }
     ensures same_transitive { SameTransitive }
 {
+    // A number: of () every body is right, and so no wrong one could be told from this.
     0
 }

@@ -1,6 +1,6 @@
 -- One line more of a transcript.
 -- Assumes nothing.
-use Rattle.std.proofs.Common.{◌≡◌, ℕ, suc, ◌+◌, List, [], ◌∷◌, ◌++◌, map, sym, refl, ap, ◌∙◌, ap₂, append_assoc, append-nil, add-one}
+use Rattle.std.proofs.Common.{◌≡◌, ℕ, suc, ◌+◌, List, [], ◌∷◌, ◌++◌, map, sym, refl, ap, ◌∙◌, ap₂, append_assoc, add-one}
 use Rattle.code.specs.Model.{Asked}
 use Rattle.station.specs.Book.{PlainBook}
 use Rattle.station.specs.Calls.{answers_from}
@@ -31,7 +31,3 @@ module _ (a : Asked) (n : ℕ) (b : PlainBook) (w total : List ℕ) where
       ∙ ap (λ t. w ++ t) (sym (first a (suc n) b d (map deed_of lines)))
       ∙ ap (λ ls. w ++ transcript_from a (suc n) b ls) (sym f)
       ∙ inv
-
-  -- In the end no line is left.
-  pub ended : (lines : List (List ℕ)) → lines ≡ [] → w ++ transcript_from a (suc n) b lines ≡ total → w ≡ total
-  ended lines none inv = sym (append-nil w) ∙ ap (λ ls. w ++ transcript_from a (suc n) b ls) (sym none) ∙ inv

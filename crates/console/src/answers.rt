@@ -2,13 +2,15 @@
 ghost use Rattle.std.specs.Prelude.{◌≡◌, ◌+◌, ◌≤◌, ◌++◌, length, IfOk, IfSome, vec_len, vec_capacity};
 ghost use Rattle.console.specs.Printed.{printed_lent};
 
-use crate::print::{put, put_decimal, put_hex};
+use crate::decode::LONGEST;
+use crate::print::{LINE, put, put_decimal, put_hex};
 use answer::fault::Fault;
 
-// Success, with the bytes of a frame or a message if there are any to show, or a refusal.
+// Success, with the bytes of a frame or a message if there are any to show, or a refusal. That there is room is asked here and where the
+// line is obeyed: a type of outputs with so much room would be one no longer after the first byte, and is no plainer.
 pub(crate) fn put_answer(out: &mut Vec<u8>, number: u64, answer: Result<Option<&[u8]>, Fault>)
-    requires room { vec_len out.old + 8300 ≤ vec_capacity out.old }
-    requires sized { IfOk answer (λ shown. IfSome shown (λ bytes. length bytes.now ≤ 4112)) }
+    requires room { vec_len out.old + LINE ≤ vec_capacity out.old }
+    requires sized { IfOk answer (λ shown. IfSome shown (λ bytes. length bytes.now ≤ LONGEST)) }
     ensures { out.new.items ≡ out.old.items ++ printed_lent number answer.entry }
 {
     put_decimal(out, number);

@@ -38,7 +38,7 @@ impl<K: Kind> Console<K> {
 
     // Obeys line `number`, and puts its printed line at the end of an output that has room for it.
     fn print_line(&mut self, number: u64, line: &[u8], out: &mut Vec<u8>)
-        requires { vec_len out.old + 8300 ≤ vec_capacity out.old }
+        requires { vec_len out.old + LINE ≤ vec_capacity out.old }
         ensures printed { out.new.items ≡ out.old.items ++ printed_of (asked (K.model self.old.station.bank)) number (items self.old.station.book) (deed_of line.now) }
         ensures book { items self.new.station.book ≡ book_after_line (asked (K.model self.old.station.bank)) (items self.old.station.book) (deed_of line.now) }
         ensures bank { K.model self.new.station.bank ≡ K.model self.old.station.bank }
@@ -60,7 +60,7 @@ impl<K: Kind> Console<K> {
         ensures printed { out.new.items ≡ out.old.items ++ if_ok result (printed_of (asked (K.model self.old.station.bank)) number (items self.old.station.book) (deed_of line.now)) [] }
         ensures book { items self.new.station.book ≡ if_ok result (book_after_line (asked (K.model self.old.station.bank)) (items self.old.station.book) (deed_of line.now)) (items self.old.station.book) }
         ensures bank { K.model self.new.station.bank ≡ K.model self.old.station.bank }
-        ensures needs { vec_len out.old + 8300 ≤ vec_capacity out.old → is_ok result ≡ true }
+        ensures needs { vec_len out.old + LINE ≤ vec_capacity out.old → is_ok result ≡ true }
     {
         out.reserve(LINE)?;
         self.print_line(number, line, out);

@@ -1,11 +1,11 @@
 // Hexadecimal digits as bytes.
-ghost use Rattle.std.specs.Prelude.{◌≡◌, ◌/◌, ◌<◌, ◌≤◌, length};
+ghost use Rattle.std.specs.Prelude.{◌≡◌, ◌*◌, ◌/◌, ◌<◌, ◌≤◌, length};
 ghost use Rattle.console.specs.Decode.{digit_value, decoded};
 
 // Bytes of the longest frame.
 pub(crate) const LONGEST: usize = 4112;
 
-// The library's `to_digit` takes lower case too.
+// Of a digit that a line has let through. (A `match` on the byte says what the definition says: the library's `to_digit` takes a `char`, and answers an Option.)
 fn digit_value(c: u8) -> u8
     ensures value { result ≡ digit_value c }
     ensures bound { result < 16 }
@@ -17,10 +17,11 @@ fn digit_value(c: u8) -> u8
     }
 }
 
-// Puts the bytes of the digits at the start of the buffer, and lends them.
+// Puts the bytes of the digits at the start of the buffer, and lends them. It refuses nothing: a decoder that refuses what is no digit, as the crate `hex`
+// does, would be unwrapped here, by a fact about the digits that every contract from `line_of` on had to hand down.
 // (An index, since nothing is known of what a loop over a `zip` with `iter_mut` writes.)
 pub(crate) fn decode<'b>(digits: &[u8], buffer: &'b mut [u8; LONGEST]) -> &'b [u8]
-    requires { length digits.now ≤ 8224 }
+    requires { length digits.now ≤ 2 * LONGEST }
     ensures bytes { result.now ≡ decoded digits.now }
     ensures len { length result.now ≡ length digits.now / 2 }
 {

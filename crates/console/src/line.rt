@@ -1,5 +1,5 @@
 // What a line is: its command and its digits, which stay where they are in the line.
-ghost use Rattle.std.specs.Prelude.{◌≡◌, ◌+◌, ◌%◌, ◌≤◌, length, IfOk};
+ghost use Rattle.std.specs.Prelude.{◌≡◌, ◌*◌, ◌%◌, ◌≤◌, length, IfOk};
 ghost use Rattle.console.specs.Grammar.{is_digit, Names, letter_of, good_digits, counted_of, command_of, line_of, line_seen};
 ghost use Rattle.console.specs.Sized.{Sized};
 
@@ -37,7 +37,7 @@ impl TryFrom<u8> for Command {
 }
 
 // A line: a command with its hexadecimal digits, or one that does nothing.
-#[derive(Drop)]
+#[derive(Clone, Copy, Debug, PartialEq, Eq)]
 pub enum Line<'a> {
     Command(Command, &'a [u8]),
     Remark,
@@ -61,9 +61,10 @@ fn digits_at_start(bytes: &[u8]) -> usize
         .unwrap_or(bytes.len())
 }
 
+// That the digits are no more than LIMIT lets through stays in three contracts: a type for them would hold a slice and be taken apart again at once.
 // A command with good digits, where they make the right number of bytes.
 fn counted(command: Command, digits: &[u8], len: usize) -> Result<Line<'_>, Fault>
-    requires { (length digits.now ≤ 8224) × (length digits.now % 2 ≡ 0) }
+    requires { (length digits.now ≤ 2 * LONGEST) × (length digits.now % 2 ≡ 0) }
     ensures line { line_seen result ≡ counted_of (letter_of command) digits.now len }
     ensures sized { IfOk result Sized }
 {
@@ -79,7 +80,7 @@ fn counted(command: Command, digits: &[u8], len: usize) -> Result<Line<'_>, Faul
 
 // A command's line of `len` bytes, by what stands after its letter and its space.
 fn command_of(command: Command, digits: &[u8], len: usize) -> Result<Line<'_>, Fault>
-    requires { length digits.now ≤ 8224 }
+    requires { length digits.now ≤ 2 * LONGEST }
     ensures line { line_seen result ≡ command_of (letter_of command) digits.now len }
     ensures sized { IfOk result Sized }
 {

@@ -63,8 +63,8 @@ fn seal<'o, K: Kind>(
     output: &'o mut [u8; LONGEST],
 ) -> Result<&'o [u8], Fault>
     requires { 0 < length bytes.now }
-    ensures answer { seen result ≡ sealed (asked (K.model station.old.bank)) (items station.old.book) (slice_index bytes.now 0) (drop 1 bytes.now) 4112 }
-    ensures sized { IfOk result (λ frame. length frame.now ≤ 4112) }
+    ensures answer { seen result ≡ sealed (asked (K.model station.old.bank)) (items station.old.book) (slice_index bytes.now 0) (drop 1 bytes.now) LONGEST }
+    ensures sized { IfOk result (λ frame. length frame.now ≤ LONGEST) }
     ensures book { station.new.book ≡ station.old.book }
     ensures bank { K.model station.new.bank ≡ K.model station.old.bank }
 {
@@ -91,7 +91,7 @@ pub(crate) fn call<'b, K: Kind>(
 ) -> Result<Option<&'b [u8]>, Fault>
     requires { Digits command (2 * length bytes.now) }
     ensures answer { (n : ℕ) → printed_lent n result ≡ printed_answer n (answer (asked (K.model station.old.bank)) (items station.old.book) (call_by command bytes.now)) }
-    ensures sized { IfOk result (λ shown. IfSome shown (λ s. length s.now ≤ 4112)) }
+    ensures sized { IfOk result (λ shown. IfSome shown (λ s. length s.now ≤ LONGEST)) }
     ensures book { items station.new.book ≡ step (asked (K.model station.old.bank)) (items station.old.book) (call_by command bytes.now) }
     ensures bank { K.model station.new.bank ≡ K.model station.old.bank }
 {

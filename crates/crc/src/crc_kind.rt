@@ -11,6 +11,7 @@ use poly::generator::Generator;
 pub type Crc<E> = OverEngine<E, Plain>;
 
 // The check as it comes.
+#[derive(Clone, Copy, PartialEq, Eq, Debug)]
 pub struct Plain;
 
 impl Form for Plain {

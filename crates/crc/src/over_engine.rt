@@ -20,7 +20,7 @@ use engine::engine::Engine;
 use poly::generator::Generator;
 use std::marker::PhantomData;
 
-#[derive(Drop)]
+#[derive(Debug, Drop)]
 pub struct OverEngine<E, F> {
     pub(crate) engine: E,
     form: PhantomData<F>,
@@ -70,18 +70,8 @@ impl<E: Engine, F: Form> OverEngine<E, F> {
         Ok(generator)
     }
 
-    // What is admitted, as a value that has the facts of its law.
+    // Asks all of the description, and then of the reach: what is admitted, as a value that has the facts of its law.
     pub fn admitted(&mut self, d: Description, reach: u16) -> Result<AdmittedCrc, Fault>
-        ensures answer { admitted result ≡ (asked (over F.form (E.carries_of self.old.engine))).admission d reach }
-        ensures description { IfOk result (λ a. a.description ≡ d) }
-        ensures reach { IfOk result (λ a. a.reach ≡ reach) }
-        ensures carries { E.carries_of self.new.engine ≡ E.carries_of self.old.engine }
-    {
-        self.admission(d, reach)
-    }
-
-    // Asks all of the description, and then of the reach. A call of its own: so a call that asks something else is refused by its clauses.
-    fn admission(&mut self, d: Description, reach: u16) -> Result<AdmittedCrc, Fault>
         ensures answer { admitted result ≡ (asked (over F.form (E.carries_of self.old.engine))).admission d reach }
         ensures description { IfOk result (λ a. a.description ≡ d) }
         ensures reach { IfOk result (λ a. a.reach ≡ reach) }

@@ -12,6 +12,7 @@ use poly::generator::Generator;
 pub type CrcParity<E> = OverEngine<E, WithParity>;
 
 // The check with a bit of parity.
+#[derive(Clone, Copy, PartialEq, Eq, Debug)]
 pub struct WithParity;
 
 impl Form for WithParity {

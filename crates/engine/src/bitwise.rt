@@ -2,7 +2,7 @@
 use crate::register::Register;
 
 #[repr(C)]
-#[derive(Clone, Copy)]
+#[derive(Clone, Copy, PartialEq, Eq, Debug)]
 pub struct Bitwise {
     pub(crate) register: Register,
 }

@@ -1,5 +1,8 @@
 // What every engine does. An engine means a degree, a low part and a register; what it carries is fixed.
-// The engines are no instances of one generic struct: for the C interface a type has no parameters, and with a Register each call is a line.
+// The engines are no instances of one generic struct: for the C interface a type has no parameters, and with a Register each call is a line;
+// `set` is more where tables are filled and where some generators are not carried, and there the engines differ anyway.
+// What a call leaves of degree, low part, register and carrying is told by a clause each: a caller uses the one that it needs, and one
+// equation of records would hide which of them the call alters.
 ghost use Rattle.std.specs.Prelude.{◌≡◌, ℕ, Bool};
 ghost use Rattle.answer.specs.Refusal.{read, if_ok};
 ghost use Rattle.answer.specs.Rules.{by_rules};

@@ -9,7 +9,7 @@ use answer::fault::Fault;
 use poly::generator::Generator;
 
 #[repr(C)]
-#[derive(Clone, Copy)]
+#[derive(Clone, Copy, PartialEq, Eq, Debug)]
 pub struct Register {
     pub(crate) generator: Generator,
     pub(crate) value: u32,

@@ -4,7 +4,7 @@ ghost use Rattle.engine.specs.Tables.{Entries};
 use crate::register::Register;
 
 #[repr(C)]
-#[derive(Clone, Copy)]
+#[derive(Clone, Copy, PartialEq, Eq, Debug)]
 pub struct Table {
     pub(crate) register: Register,
     pub(crate) entries: [u32; 256],

@@ -12,6 +12,9 @@ use code::description::{Description, Sheet};
 use code::fields::{fitting, lawful_reach, one_generator};
 use code::kind::Kind;
 
+// the kind number
+const KIND: u8 = 200;
+
 #[derive(Clone, Copy, PartialEq, Eq, Debug)]
 pub struct Longitudinal;
 
@@ -19,7 +22,7 @@ pub struct Longitudinal;
 fn fields(d: Description) -> Result<(), Fault>
     ensures { read result ≡ by_rules (described_rules longitudinal d) tt }
 {
-    if d.kind != 200 {
+    if d.kind != KIND {
         return Err(Fault::Unserved);
     }
     if d.degree != 8 {
@@ -48,7 +51,7 @@ impl Kind for Longitudinal {
     ghost keeps = { λ k. Laws.keeps };
 
     fn serves(&self, kind: u8) -> bool {
-        kind == 200
+        kind == KIND
     }
 
     fn admit(&mut self, d: Description, reach: u16) -> Result<(), Fault> {

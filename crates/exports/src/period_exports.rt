@@ -9,7 +9,7 @@ use poly::walk::Walk;
 
 // The answer of the period call as numbers.
 #[repr(C)]
-#[derive(Clone, Copy)]
+#[derive(Clone, Copy, PartialEq, Eq, Debug)]
 pub struct PeriodAnswer {
     // 0, or the number of the refusal
     pub number: u8,

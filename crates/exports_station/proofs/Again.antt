@@ -1,9 +1,8 @@
--- One change more, and a call made once more.
+-- One change more.
 -- Assumes nothing.
-use Rattle.std.proofs.Common.{◌≡◌, ℕ, ◌+◌, ◌<◌, List, ◌++◌, map, length, get_or, take, drop, Ok, Err, Result, sym, refl, ap, ◌∙◌, ap₂}
-use Rattle.std.proofs.lemmas.List.{drop_at, map_more}
-use Rattle.answer.specs.Refusal.{Refusal}
-use Rattle.code.specs.Model.{Model, asked, written}
+use Rattle.std.proofs.Common.{◌≡◌, ℕ, ◌+◌, ◌<◌, List, map, length, get_or, take, sym, ap, ◌∙◌, ap₂}
+use Rattle.std.proofs.lemmas.List.{map_more}
+use Rattle.code.specs.Model.{Model, asked}
 use Rattle.station.specs.Book.{PlainBook, empty_book}
 use Rattle.station.specs.Calls.{step, run}
 use Rattle.runs.proofs.Runs.{run_more}
@@ -18,13 +17,3 @@ changed_once m m' cs i blank b b' l eb em e =
     let made = map call_of (take i cs) in
     e ∙ ap₂ (λ (k : Model) (p : PlainBook). step (asked k) p c) em eb
     ∙ sym (ap (run (asked m) empty_book) (map_more call_of cs i blank l) ∙ run_more (asked m) empty_book made c)
-
--- what is written twice stands there as if written once
-pub written_again : (x : Result (List ℕ) Refusal) (out : List ℕ) → written x (written x out) ≡ written x out
-written_again (Ok bytes) out = ap (λ rest. bytes ++ rest) (drop_at bytes (drop (length bytes) out) (length bytes) refl)
-written_again (Err r) out = refl
-
--- a call that writes: x answers it first and x' once more; first, then and last are the outputs before, after one call, after two
-pub wrote_again : (x x' : Result (List ℕ) Refusal) (first then now last : List ℕ) → x' ≡ x → then ≡ written x first → now ≡ then → last ≡ written x' now
-    → last ≡ then
-wrote_again x x' first then now last e e1 e2 e3 = e3 ∙ ap₂ written e (e2 ∙ e1) ∙ written_again x first ∙ sym e1

@@ -3,7 +3,6 @@
 use Rattle.std.specs.Prelude.{ℕ, cond, List, map, Ok, Err, Result, ◌==◌}
 use Rattle.answer.specs.Refusal.{Refusal}
 use Rattle.answer.specs.Rules.{then}
-use Rattle.code.specs.declared.description.Description.{Description}
 use Rattle.code.specs.Model.{Asked, asked}
 use Rattle.engine.specs.Meaning.{carries_all}
 use Rattle.station.specs.Book.{PlainBook}
@@ -11,7 +10,6 @@ use Rattle.station.specs.Calls.{Change, enter, narrow, retire, Call, change, boo
 use Rattle.runs.specs.Pledge.{three_kinds_over}
 use Rattle.exports_station.specs.declared.change.Change.{Change as MadeChange}
 use Rattle.exports_station.specs.declared.change.Change.TheVariants.{Enter, Narrow, Retire}
-use Rattle.exports_station.specs.declared.form.Code.{Code}
 use Rattle.exports_station.specs.declared.form.BookChange.{BookChange}
 use Rattle.exports_station.specs.declared.form.CallAnswer.{CallAnswer}
 
@@ -19,13 +17,10 @@ use Rattle.exports_station.specs.declared.form.CallAnswer.{CallAnswer}
 abbrev pub kinds_asked : Asked
 kinds_asked = asked (three_kinds_over carries_all carries_all)
 
-abbrev pub description_of : Code → Description
-description_of c = record { kind = c.kind; degree = c.degree; low = c.low; degree2 = c.degree2; low2 = c.low2; tuple = c.tuple }
-
 -- Which change a call number stands for.
 abbrev pub change_of : BookChange → Change
 change_of c =
-    cond (c.call == 1) (enter c.number (description_of c.code) c.reach)
+    cond (c.call == 1) (enter c.number c.code c.reach)
     (cond (c.call == 2) (narrow c.number c.reach) (retire c.number))
 
 -- A change as the calls' definitions have it.

@@ -1,7 +1,7 @@
 // A change of a book.
 use code::description::Description;
 
-#[derive(Clone, Copy)]
+#[derive(Clone, Copy, Debug, PartialEq, Eq)]
 pub(crate) enum Change {
     // a description with a reach under a number
     Enter(u8, Description, u16),

@@ -1,4 +1,4 @@
-// The check of a message, over any bank. Made `more` times more it gives the same answer every time.
+// The check of a message, over any bank. Made `more` times more it gives the same answer every time. Its loop stands here for the reason in stationing.rt.
 ghost use Rattle.std.specs.Prelude.{◌≡◌, ℕ, length};
 ghost use Rattle.answer.specs.Refusal.{read};
 ghost use Rattle.code.specs.Model.{asked, length_of, written};

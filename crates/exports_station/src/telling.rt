@@ -3,34 +3,18 @@ ghost use Rattle.std.specs.Prelude.{◌≡◌};
 ghost use Rattle.answer.specs.Refusal.{read};
 ghost use Rattle.code.specs.Model.{length_of};
 ghost use Rattle.station.specs.Items.{seen};
-ghost use Rattle.exports_station.specs.Forms.{change_of, description_of, done, plain, told};
+ghost use Rattle.exports_station.specs.Forms.{change_of, done, plain, told};
 
 use crate::change::Change;
-use crate::form::{BookChange, CallAnswer, Code};
+use crate::form::{BookChange, CallAnswer};
 use answer::fault::Fault;
-use code::description::Description;
-
-impl From<Code> for Description {
-    ghost from_gives = { λ c d. d ≡ description_of c };
-
-    fn from(code: Code) -> Description {
-        Description {
-            kind: code.kind,
-            degree: code.degree,
-            low: code.low,
-            degree2: code.degree2,
-            low2: code.low2,
-            tuple: code.tuple,
-        }
-    }
-}
 
 impl From<BookChange> for Change {
     ghost from_gives = { λ c x. plain x ≡ change_of c };
 
     fn from(c: BookChange) -> Change {
         match c.call {
-            1 => Change::Enter(c.number, c.code.into(), c.reach),
+            1 => Change::Enter(c.number, c.code, c.reach),
             2 => Change::Narrow(c.number, c.reach),
             _ => Change::Retire(c.number),
         }

@@ -4,7 +4,6 @@
 
 mod say;
 
-use answer::fault::Fault;
 use anyhow::anyhow;
 use code::catalogue::published;
 use code::description::Description;
@@ -13,7 +12,6 @@ use kinds::three::three_kinds;
 use runs::run::run;
 use say::told;
 use station::call::{Call, Outcome};
-use std::alloc::{AllocError, Global};
 
 const READING: [u8; 8] = [0x00, 0x00, 0x13, 0x88, 0xFF, 0xEC, 0x01, 0xF4];
 
@@ -43,9 +41,9 @@ fn published_codes() -> Option<Codes> {
 }
 
 // The frame that a seal wrote: the outputs are as long as the frames.
-fn frame_of<'v>(outcome: Option<&'v Outcome<'_>>) -> &'v [u8] {
+fn frame_of<'v>(outcome: &'v Outcome<'_>) -> &'v [u8] {
     match outcome {
-        Some(Outcome::Wrote(_, out)) => out.as_slice(),
+        Outcome::Wrote(_, out) => out.as_slice(),
         _ => &[],
     }
 }
@@ -277,11 +275,14 @@ fn fleet(rt: &HostRuntime) -> anyhow::Result<()> {
         },
     ];
     let sealed = run(rt.alloc(), three_kinds::<Table>(), &sealing)?;
+    let [.., reading, short, sums, longer] = &sealed.outcomes[..] else {
+        return Err(anyhow!("a call has no outcome"));
+    };
     let sent = Frames {
-        reading: frame_of(sealed.outcomes.get(3)),
-        short: frame_of(sealed.outcomes.get(4)),
-        sums: frame_of(sealed.outcomes.get(5)),
-        longer: frame_of(sealed.outcomes.get(6)),
+        reading: frame_of(reading),
+        short: frame_of(short),
+        sums: frame_of(sums),
+        longer: frame_of(longer),
     };
     old_site(rt, c, sent.reading)?;
     new_site(rt, c, sent)

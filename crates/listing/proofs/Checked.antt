@@ -1,6 +1,6 @@
 -- A check as a number, from what the call that wrote it says: x is the answer by the model.
 -- Assumes nothing.
-use Rattle.std.proofs.Common.{◌≡◌, ℕ, List, ◌++◌, length, take, drop, Ok, Err, Result, sym, ap, ◌∙◌}
+use Rattle.std.proofs.Common.{◌≡◌, ℕ, List, length, take, drop, Ok, Err, Result, sym, ap, ◌∙◌}
 use Rattle.std.proofs.lemmas.List.{take_at}
 use Rattle.answer.specs.Refusal.{Refusal}
 use Rattle.answer.specs.Rules.{then}

@@ -21,6 +21,12 @@ both_kinds carries = asked (joined (crc_model carries) (parity_model carries))
 abbrev pub number_from : List ℕ → ℕ
 number_from bytes = fold (λ n b. bit_or (n * 2 ^ 8 % 2 ^ 32) b) 0 bytes
 
+-- The degree of the generator, or of the first of the code.
+abbrev pub degree_asked : Question → ℕ
+degree_asked (Remainder h low message) = h
+degree_asked (Pieces h low pieces) = h
+degree_asked (Check d message) = d.degree
+
 -- A remainder of one string or of joined pieces, or a check, as a number; or the refusal.
 abbrev pub answered : (ℕ → ℕ → Bool) → Question → Result ℕ Refusal
 answered carries (Remainder h low message) = by_rules (set_rules (carries h low) h low) (remainder h low message.now)

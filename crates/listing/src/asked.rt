@@ -3,7 +3,7 @@ ghost use Rattle.std.specs.Prelude.{◌≡◌, ℕ, Bool, List, Ok};
 ghost use Rattle.answer.specs.Refusal.{read};
 ghost use Rattle.answer.specs.Rules.{then};
 ghost use Rattle.code.specs.Model.{asked};
-ghost use Rattle.listing.specs.Asked.{answered, number_from};
+ghost use Rattle.listing.specs.Asked.{answered, degree_asked, number_from};
 
 use answer::fault::Fault;
 use code::bank::Bank;
@@ -16,7 +16,7 @@ use engine::remainder::remainder_by;
 use engine::running::check_pieces;
 
 /// What an engine is asked for.
-#[derive(Clone, Copy)]
+#[derive(Clone, Copy, PartialEq, Eq, Debug)]
 pub enum Question<'a> {
     /// the remainder of a message by X^degree + low
     Remainder(u8, u32, &'a [u8]),
@@ -24,6 +24,18 @@ pub enum Question<'a> {
     Pieces(u8, u32, &'a [&'a [u8]]),
     /// the check of a message by kind 1 or 2 over the engine
     Check(Description, &'a [u8]),
+}
+
+impl Question<'_> {
+    // The degree of the generator, or of the first of the code.
+    pub(crate) fn degree(self) -> u8
+        ensures { result ≡ degree_asked self.entry }
+    {
+        match self {
+            Question::Remainder(degree, _, _) | Question::Pieces(degree, _, _) => degree,
+            Question::Check(description, _) => description.degree,
+        }
+    }
 }
 
 pub trait Asked {

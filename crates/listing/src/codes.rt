@@ -1,7 +1,7 @@
 // The published codes as kinds: sheet, greatest reach, checks and refusals, by the bank of the three kinds over the table engine.
-use crate::descriptions::{CRC_16, HEC, PARITY, WSC};
-use answer::fault::Fault;
-use code::catalogue::published;
+use crate::messages::every_byte;
+use crate::refusals::fault_or;
+use code::catalogue::{ATM_HEC, CRC_16, NAMES, PARITY_16, WSC_8, published};
 use code::description::{Description, Sheet};
 use code::kind::Kind;
 use crc::crc_kind::Crc;
@@ -10,18 +10,7 @@ use engine::fast::Fast;
 use engine::table::Table;
 use kinds::three::three_kinds;
 use shown::bytes::Bytes;
-use std::{array, io};
-
-pub const NAMES: [&str; 8] = [
-    "CRC-16",
-    "CRC-CCITT",
-    "IEEE-802",
-    "ATM-HEC",
-    "FAST-16",
-    "LONG-24",
-    "PARITY-16",
-    "WSC-8",
-];
+use std::io;
 
 // A code of kind 3 with tuples of four bytes.
 const WIDE: Description = Description {
@@ -84,14 +73,11 @@ fn greatest<K: Kind>(rt: &impl Print, bank: &mut K, d: Description, tuple: u16) 
         return println!(rt; "  no reach");
     };
     print!(rt; "  greatest reach {reach}, one tuple more ")?;
-    match bank.admit(d, reach.saturating_add(tuple)) {
-        Ok(()) => println!(rt; "admitted"),
-        Err(fault) => println!(rt; "{fault}"),
-    }
+    fault_or(rt, "admitted", bank.admit(d, reach.saturating_add(tuple)))
 }
 
 fn checks<K: Kind>(rt: &impl Print, bank: &mut K, d: Description) -> io::Result<()> {
-    let all: [u8; 256] = array::from_fn(|i| i as u8);
+    let all = every_byte();
     let short: [&[u8]; 6] = [
         b"\x01",
         b"\x80",
@@ -119,50 +105,83 @@ fn check<K: Kind>(rt: &impl Print, bank: &mut K, d: Description, message: &[u8])
 // An empty message, and an output with one byte too few.
 fn rooms<K: Kind>(rt: &impl Print, bank: &mut K, d: Description, size: u16) -> io::Result<()> {
     let mut out = [0; 64];
-    refusal(rt, "nothing is refused", bank.check(d, &[], &mut out))?;
+    print!(rt; "  nothing is refused: ")?;
+    fault_or(rt, "no refusal", bank.check(d, &[], &mut out))?;
     let room = usize::from(size.saturating_sub(1)).min(64);
-    refusal(
-        rt,
-        "one byte of room too few",
-        bank.check(d, &[0; 4], &mut out[0..room]),
-    )
-}
-
-fn refusal(rt: &impl Print, what: &str, answer: Result<usize, Fault>) -> io::Result<()> {
-    match answer {
-        Ok(_) => println!(rt; "  {what}: no refusal"),
-        Err(fault) => println!(rt; "  {what}: {fault}"),
-    }
+    print!(rt; "  one byte of room too few: ")?;
+    fault_or(rt, "no refusal", bank.check(d, &[0; 4], &mut out[0..room]))
 }
 
 // Descriptions with a reach: one for each way to be refused by a bank over the table engine, but for the one of the fast engine.
 const BEFORE: [(Description, u16); 10] = [
-    (Description { kind: 9, ..HEC }, 15),
-    (Description { degree: 12, ..HEC }, 15),
-    (Description { degree2: 1, ..HEC }, 15),
-    (Description { low2: 1, ..HEC }, 15),
-    (Description { tuple: 2, ..HEC }, 15),
-    (Description { degree2: 9, ..WSC }, 15),
-    (Description { low: 0x06, ..HEC }, 15),
-    (Description { low2: 0x14, ..WSC }, 15),
+    (Description { kind: 9, ..ATM_HEC }, 15),
     (
         Description {
-            low: 0x0001,
-            ..PARITY
+            degree: 12,
+            ..ATM_HEC
         },
         15,
     ),
-    (Description { low2: 0x05, ..WSC }, 15),
+    (
+        Description {
+            degree2: 1,
+            ..ATM_HEC
+        },
+        15,
+    ),
+    (Description { low2: 1, ..ATM_HEC }, 15),
+    (
+        Description {
+            tuple: 2,
+            ..ATM_HEC
+        },
+        15,
+    ),
+    (
+        Description {
+            degree2: 9,
+            ..WSC_8
+        },
+        15,
+    ),
+    (
+        Description {
+            low: 0x06,
+            ..ATM_HEC
+        },
+        15,
+    ),
+    (
+        Description {
+            low2: 0x14,
+            ..WSC_8
+        },
+        15,
+    ),
+    (
+        Description {
+            low: 0x0001,
+            ..PARITY_16
+        },
+        15,
+    ),
+    (
+        Description {
+            low2: 0x05,
+            ..WSC_8
+        },
+        15,
+    ),
 ];
 
 const AFTER: [(Description, u16); 4] = [
-    (HEC, 1),
+    (ATM_HEC, 1),
     (CRC_16, 4096),
     (
         Description {
             degree2: 2,
             low2: 0x01,
-            ..WSC
+            ..WSC_8
         },
         15,
     ),
@@ -189,8 +208,5 @@ fn admission<K: Kind>(
     reach: u16,
 ) -> io::Result<()> {
     print!(rt; "  {d}, reach {reach}, by {engine}: ")?;
-    match kind.admit(d, reach) {
-        Ok(()) => println!(rt; "admitted"),
-        Err(fault) => println!(rt; "{fault}"),
-    }
+    fault_or(rt, "admitted", kind.admit(d, reach))
 }

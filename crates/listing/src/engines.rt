@@ -25,9 +25,9 @@ pub fn by_engines(
     rt: &impl Print,
     engines: &[&dyn Asked],
     verb: &str,
-    degree: u8,
     question: Question,
 ) -> io::Result<()> {
+    let degree = question.degree();
     let mut first = None;
     for engine in engines {
         if let Ok(value) = engine.answer(question) {
@@ -45,11 +45,6 @@ pub fn by_engines(
 }
 
 /// What is left of a message or of pieces.
-pub fn leaves(
-    rt: &impl Print,
-    engines: &[&dyn Asked],
-    degree: u8,
-    question: Question,
-) -> io::Result<()> {
-    by_engines(rt, engines, "leaves", degree, question)
+pub fn leaves(rt: &impl Print, engines: &[&dyn Asked], question: Question) -> io::Result<()> {
+    by_engines(rt, engines, "leaves", question)
 }

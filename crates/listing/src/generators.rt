@@ -1,22 +1,24 @@
 // The published generators: what each is, which engines carry it, and what it leaves of some messages.
 use crate::asked::{Asked, Question};
 use crate::engines::{carriers, leaves};
+use crate::messages::every_byte;
+use code::catalogue::{ATM_HEC, CRC_16, CRC_CCITT, FAST_16, IEEE_802, LONG_24, PARITY_16, WSC_8};
 use poly::generator::Generator;
 use shown::bytes::Bytes;
 use shown::hex::Hex;
-use std::{array, io};
+use std::io;
 
-// Name, degree, low part.
+// A name, and the degree and the low part of the generator.
 const PUBLISHED: [(&str, u8, u32); 9] = [
-    ("CRC-16", 16, 0x8005),
-    ("CRC-CCITT", 16, 0x1021),
-    ("IEEE-802", 32, 0x04C1_1DB7),
-    ("ATM-HEC", 8, 0x07),
-    ("FAST-16", 16, 0x011B),
-    ("LONG-24", 24, 0x01_8301),
-    ("PARITY-16", 15, 0x0003),
-    ("WSC-8 first", 8, 0x1D),
-    ("WSC-8 second", 5, 0x15),
+    ("CRC-16", CRC_16.degree, CRC_16.low),
+    ("CRC-CCITT", CRC_CCITT.degree, CRC_CCITT.low),
+    ("IEEE-802", IEEE_802.degree, IEEE_802.low),
+    ("ATM-HEC", ATM_HEC.degree, ATM_HEC.low),
+    ("FAST-16", FAST_16.degree, FAST_16.low),
+    ("LONG-24", LONG_24.degree, LONG_24.low),
+    ("PARITY-16", PARITY_16.degree, PARITY_16.low),
+    ("WSC-8 first", WSC_8.degree, WSC_8.low),
+    ("WSC-8 second", WSC_8.degree2, WSC_8.low2 as u32),
 ];
 
 const PIECES: [&[u8]; 4] = [b"1", b"", b"2345", b"6789"];
@@ -57,7 +59,7 @@ fn about(rt: &impl Print, name: &str, generator: Generator) -> io::Result<()> {
 }
 
 fn messages(rt: &impl Print, engines: &[&dyn Asked], degree: u8, low: u32) -> io::Result<()> {
-    let all: [u8; 256] = array::from_fn(|i| i as u8);
+    let all = every_byte();
     let short: [&[u8]; 7] = [
         b"\x01",
         b"\x80",
@@ -68,23 +70,18 @@ fn messages(rt: &impl Print, engines: &[&dyn Asked], degree: u8, low: u32) -> io
         &all[0..16],
     ];
     print!(rt; "  nothing")?;
-    leaves(rt, engines, degree, Question::Remainder(degree, low, &[]))?;
+    leaves(rt, engines, Question::Remainder(degree, low, &[]))?;
     for message in &short {
         print!(rt; "  {}", Bytes(message))?;
-        leaves(
-            rt,
-            engines,
-            degree,
-            Question::Remainder(degree, low, message),
-        )?;
+        leaves(rt, engines, Question::Remainder(degree, low, message))?;
     }
     print!(rt; "  256 bytes 00 to FF")?;
-    leaves(rt, engines, degree, Question::Remainder(degree, low, &all))
+    leaves(rt, engines, Question::Remainder(degree, low, &all))
 }
 
 fn pieces(rt: &impl Print, engines: &[&dyn Asked], degree: u8, low: u32) -> io::Result<()> {
     print!(rt; "  no piece")?;
-    leaves(rt, engines, degree, Question::Pieces(degree, low, &[]))?;
+    leaves(rt, engines, Question::Pieces(degree, low, &[]))?;
     print!(rt; "  31, nothing, 32333435, 36373839 in pieces")?;
-    leaves(rt, engines, degree, Question::Pieces(degree, low, &PIECES))
+    leaves(rt, engines, Question::Pieces(degree, low, &PIECES))
 }

@@ -47,8 +47,13 @@ fn refusal<T: Drop>(
 ) -> io::Result<()> {
     let low = Hex::in_few_bytes(low);
     print!(rt; "  {call}, degree {degree}, low part {low}{by}: ")?;
+    fault_or(rt, "no refusal", answer)
+}
+
+/// The fault of an answer, or a word where there is none.
+pub fn fault_or<T: Drop>(rt: &impl Print, word: &str, answer: Result<T, Fault>) -> io::Result<()> {
     match answer {
-        Ok(_) => println!(rt; "no refusal"),
+        Ok(_) => println!(rt; "{word}"),
         Err(fault) => println!(rt; "{fault}"),
     }
 }

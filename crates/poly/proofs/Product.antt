@@ -42,9 +42,6 @@ xor_left_comm a b c = sym (xor_assoc a b c) ∙ ap (λ x. bit_xor x c) (xor_comm
 pub xor_swap : (a b c d : ℕ) → bit_xor (bit_xor a b) (bit_xor c d) ≡ bit_xor (bit_xor a c) (bit_xor b d)
 xor_swap a b c d = xor_assoc a b (bit_xor c d) ∙ ap (bit_xor a) (xor_left_comm b c d) ∙ sym (xor_assoc a c (bit_xor b d))
 
-pub xor_cancel : (a b : ℕ) → bit_xor a (bit_xor a b) ≡ b
-xor_cancel a b = sym (xor_assoc a a b) ∙ ap (λ x. bit_xor x b) (xor_self a)
-
 pub xor_cancel_r : (a b : ℕ) → bit_xor (bit_xor a b) b ≡ a
 xor_cancel_r a b = xor_assoc a b b ∙ ap (bit_xor a) (xor_self b) ∙ xor_zero_r a
 
@@ -206,12 +203,3 @@ clmul_more a q i =
 
 pub clmul-none : (a q : ℕ) → 0 ≡ clmul (a % 2 ^ 0) q
 clmul-none a q = sym (ap (λ x. clmul x q) (mod-one a) ∙ clmul_zero_l q)
-
-pub clmul-set : (a q i : ℕ) → a / 2 ^ i % 2 ≡ 1 → bit_xor (clmul (a % 2 ^ i) q) (q * 2 ^ i) ≡ clmul (a % 2 ^ (i + 1)) q
-clmul-set a q i e =
-    sym (clmul_more a q i ∙ ap (λ x. bit_xor (clmul (a % 2 ^ i) q) (x * 2 ^ i)) (ap (λ x. x * q) e ∙ one-mul q))
-
-pub clmul_clear : (a q i : ℕ) → a / 2 ^ i % 2 ≡ 0 → clmul (a % 2 ^ i) q ≡ clmul (a % 2 ^ (i + 1)) q
-clmul_clear a q i e =
-    sym (clmul_more a q i ∙ ap (λ x. bit_xor (clmul (a % 2 ^ i) q) (x * 2 ^ i)) (ap (λ x. x * q) e ∙ zero-mul q)
-    ∙ ap (bit_xor (clmul (a % 2 ^ i) q)) (zero-mul (2 ^ i)) ∙ xor_zero_r (clmul (a % 2 ^ i) q))

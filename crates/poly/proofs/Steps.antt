@@ -59,7 +59,3 @@ module _ (h low : ℕ) (small : low < 2 ^ h) where
       ap (λ x. p / 2 ^ x) k ∙ ap (λ x. p / x) (pow-suc 2 (31 - i)) ∙ sym (div-div-eq-div-mul p (2 ^ (31 - i)) 2) in
       ap₂ bit_xor (et ∙ ap (λ x. rem h low (x * 2)) (er ∙ ap (rem h low) half)) eb
       ∙ bit_more two (p / 2 ^ (31 - i)) ∙ ap (λ x. rem h low (p / 2 ^ x)) n
-
--- a number that has no bit from the k-th on
-pub no_high : (p k : ℕ) → p / 2 ^ k ≢ 0 → p < 2 ^ k → ⊥
-no_high p k ne l = ne (div-eq_of_lt l)

@@ -13,37 +13,30 @@ use answer::fault::Fault;
 // How far the walk looks.
 const LIMIT: u16 = 32768;
 
-// The powers of X one after the other, at the top of 32 bits, until one leaves 1.
-fn walk(generator: Generator) -> Walk
-    ensures { Walked generator.degree generator.low 32768 result.period result.steps }
-{
-    let up = 32 - generator.degree;
-    let low = generator.low << up;
-    let one = 1u32 << up;
-    let mut power = one;
-    for done in 0..LIMIT {
-        power = twice_at_top(low, power);
-        if power == one {
-            let steps = done + 1;
-            return Walk {
-                period: Some(steps),
-                steps,
-            };
-        }
-    }
-    Walk {
-        period: None,
-        steps: LIMIT,
-    }
-}
-
 impl Generator {
-    // The period, if there is one up to the limit, and the steps that were made to see that.
+    // The period, if there is one up to the limit, and the steps that were made to see that: the powers of X one after the other, at
+    // the top of 32 bits, until one leaves 1.
     pub fn period(self) -> Walk
         ensures answer { result ≡ walk_of self.degree self.low }
         ensures least { Walked self.degree self.low 32768 result.period result.steps }
     {
-        walk(self)
+        let up = 32 - self.degree;
+        let low = self.low << up;
+        let one = 1u32 << up;
+        let mut power = one;
+        for steps in 1..=LIMIT {
+            power = twice_at_top(low, power);
+            if power == one {
+                return Walk {
+                    period: Some(steps),
+                    steps,
+                };
+            }
+        }
+        Walk {
+            period: None,
+            steps: LIMIT,
+        }
     }
 }
 

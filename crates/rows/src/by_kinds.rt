@@ -1,7 +1,7 @@
 // The refusals of kinds, their sheets and greatest reaches, and the small sums by hand.
 use crate::refusal::{Refusal, refusal_of};
 use answer::fault::Layer;
-use code::catalogue::published;
+use code::catalogue::{ATM_HEC, CRC_16, PARITY_16, WSC_8, published};
 use code::description::Description;
 use code::kind::Kind;
 use crc::crc_kind::Crc;
@@ -9,67 +9,84 @@ use engine::engine::Engine;
 use engine::fast::Fast;
 use engine::table::Table;
 use kinds::three::three_kinds;
-use listing::descriptions::{CRC_16, HEC, PARITY, WSC};
 use std::process::Abort;
 use std::test::Fail;
 
 // One row for each way in which an admission over the table engine is refused: description, reach, and the refusal.
 const ROWS: [(Description, u16, Option<Refusal>); 13] = [
     (
-        Description { kind: 9, ..HEC },
+        Description { kind: 9, ..ATM_HEC },
         15,
         Some((11, Layer::Kind, 2)),
     ),
     (
-        Description { degree: 12, ..HEC },
+        Description {
+            degree: 12,
+            ..ATM_HEC
+        },
         15,
         Some((12, Layer::Kind, 3)),
     ),
     (
-        Description { degree2: 1, ..HEC },
+        Description {
+            degree2: 1,
+            ..ATM_HEC
+        },
         15,
         Some((12, Layer::Kind, 8)),
     ),
     (
-        Description { low2: 1, ..HEC },
+        Description { low2: 1, ..ATM_HEC },
         15,
         Some((12, Layer::Kind, 9)),
     ),
     (
-        Description { tuple: 2, ..HEC },
+        Description {
+            tuple: 2,
+            ..ATM_HEC
+        },
         15,
         Some((12, Layer::Kind, 11)),
     ),
     (
-        Description { low: 0x06, ..HEC },
+        Description {
+            low: 0x06,
+            ..ATM_HEC
+        },
         15,
         Some((13, Layer::Kind, 4)),
     ),
     (
-        Description { low2: 0x14, ..WSC },
+        Description {
+            low2: 0x14,
+            ..WSC_8
+        },
         15,
         Some((13, Layer::Kind, 9)),
     ),
     (
         Description {
             low: 0x0001,
-            ..PARITY
+            ..PARITY_16
         },
         15,
         Some((14, Layer::Kind, 4)),
     ),
     (
-        Description { low2: 0x05, ..WSC },
+        Description {
+            low2: 0x05,
+            ..WSC_8
+        },
         15,
         Some((14, Layer::Kind, 9)),
     ),
-    (HEC, 1, Some((16, Layer::Kind, 12))),
+    (ATM_HEC, 1, Some((16, Layer::Kind, 12))),
     (CRC_16, 4096, Some((17, Layer::Kind, 4))),
     (
         Description {
             degree2: 2,
             low2: 0x01,
-            ..WSC
+            ..WSC_8
         },
         15,
         Some((17, Layer::Kind, 9)),

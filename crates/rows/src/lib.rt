@@ -1,6 +1,7 @@
 #![tactic(auto)]
 
 // The example of every row of the table of answers, through the call that gives it. There is no code here but the tests.
+// Rows of tables are tuples, so that a row stays a line: as structs they have a line for each field. Each table names its columns.
 #[cfg(test)]
 mod by_kinds;
 #[cfg(test)]

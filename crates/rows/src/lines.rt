@@ -1,17 +1,18 @@
 // The refusals of a line.
 use crate::refusal::refusal_of;
 use answer::fault::Layer;
-use console::line::{Line, line_of};
+use console::line::line_of;
+use listing::lines;
 
 // A line, and the number and the place of its refusal. Byte 1, a digit and half a byte are all 2.
 const LINES: [(&[u8], u8, usize); 9] = [
-    (b"Q 05", 1, 0),
+    (lines::OTHER_CALL, 1, 0),
     (b" # no remark", 1, 0),
-    (b"R", 2, 1),
+    (lines::CALL_ALONE, 2, 1),
     (b"R05", 2, 1),
-    (b"R 0a", 2, 3),
-    (b"R 050", 2, 5),
-    (b"R 0506", 3, 6),
+    (lines::LOWER_CASE, 2, 3),
+    (lines::HALF_BYTE, 2, 5),
+    (lines::BYTE_ADDED, 3, 6),
     (b"M ", 3, 2),
     (b"N 05000F00", 3, 10),
 ];

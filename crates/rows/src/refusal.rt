@@ -1,4 +1,4 @@
-// Refusals as the tables have them.
+// Refusals as the tables have them: the numbers are what is tested, so they stand here and in `number_of` as numbers, not by the names of faults.
 use answer::fault::{Fault, Layer};
 
 // Number, layer, place.

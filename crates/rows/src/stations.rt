@@ -1,13 +1,11 @@
 // The refusals of a station through its calls, and what a refusal leaves: the book, the output, the frame.
 use crate::refusal::{Refusal, refusal_of};
 use crate::station_rows::*;
-use answer::fault::{Fault, Layer};
 use answer::reading::number_of;
-use code::catalogue::published;
-use code::kind::Kind;
+use code::catalogue::{ATM_HEC, published};
 use engine::table::Table;
 use kinds::three::{Kinds, three_kinds};
-use listing::descriptions::HEC;
+use listing::frames;
 use station::call::{Call, Outcome};
 use station::station::Station;
 use std::alloc::Global;
@@ -32,7 +30,7 @@ fn full() -> Result<Station<Kinds<Table>>, Fail> {
         station.enter(*number, published(name).ok_or("none")?, 15)?;
     }
     for number in 32..45u8 {
-        station.enter(number, HEC, 15)?;
+        station.enter(number, ATM_HEC, 15)?;
     }
     Ok(station)
 }
@@ -163,7 +161,7 @@ fn empty_book_refuses(rt: HostRuntime) {
     let mut out = [0xEE; 18];
     assert_eq!(rt; number_of(&station.seal(5, &[1], &mut out)), 23);
     assert_eq!(rt; out[0], 0xEE);
-    assert_eq!(rt; number_of(&station.take(GOOD)), 23);
+    assert_eq!(rt; number_of(&station.take(&frames::GOOD)), 23);
     assert_eq!(rt; number_of(&station.take(&[])), 41);
     assert_eq!(rt; number_of(&station.trial(&mut out, 18, 0)), 48);
 }

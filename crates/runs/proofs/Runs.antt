@@ -1,7 +1,7 @@
 -- Lists of calls, one call more at a time.
 -- Assumes nothing.
-use Rattle.std.proofs.Common.{◌≡◌, ℕ, ◌+◌, ◌<◌, List, [], ◌∷◌, ◌++◌, length, get_or, take, sym, refl, ap, ◌∙◌, ap₂}
-use Rattle.std.proofs.lemmas.List.{map_more, map_push}
+use Rattle.std.proofs.Common.{◌≡◌, ℕ, ◌+◌, ◌<◌, ◌≤◌, List, [], ◌∷◌, ◌++◌, length, get_or, take, sym, refl, ap, ◌∙◌, ap₂}
+use Rattle.std.proofs.lemmas.List.{map_more, map_push, take_all}
 use Rattle.code.specs.Model.{Model, Asked, asked}
 use Rattle.station.specs.declared.call.Call.{Call as Made}
 use Rattle.station.specs.declared.call.Outcome.{Outcome}
@@ -36,3 +36,13 @@ turn m m' cs i blank outs outs' o b b' l eo eb em ep h eb' =
           ∙ sym (ap (answers_from a empty_book) more ∙ answers_more a empty_book made c),
       eb' ∙ ap₂ (λ (k : Model) (p : PlainBook). step (asked k) p c) em eb ∙ sym (ap (run a empty_book) more ∙ run_more a empty_book made c),
     )
+
+-- after the last turn: m is what the bank means at the station, and m' what it means to the caller
+pub book_of_all : (m m' : Model) (cs : List Made) (i : ℕ) (b : PlainBook) → length cs ≤ i → m ≡ m'
+    → b ≡ run (asked m) empty_book (plain_calls (take i cs)) → b ≡ run (asked m') empty_book (plain_calls cs)
+book_of_all m m' cs i b l e p = p ∙ ap₂ (λ (k : Model) (xs : List Made). run (asked k) empty_book (plain_calls xs)) e (take_all i cs l)
+
+pub outcomes_of_all : (m m' : Model) (cs : List Made) (i : ℕ) (outs : List Outcome) → length cs ≤ i → m ≡ m'
+    → outcomes_seen outs ≡ answers_from (asked m) empty_book (plain_calls (take i cs)) → outcomes_seen outs ≡ answers_from (asked m') empty_book (plain_calls cs)
+outcomes_of_all m m' cs i outs l e p =
+    p ∙ ap₂ (λ (k : Model) (xs : List Made). answers_from (asked k) empty_book (plain_calls xs)) e (take_all i cs l)

@@ -5,7 +5,7 @@ ghost use Rattle.answer.specs.Shown.{hexadecimal};
 use std::fmt;
 
 /// Two upper-case digits for each byte.
-#[derive(Clone, Copy)]
+#[derive(Clone, Copy, PartialEq, Eq, Debug)]
 pub struct Bytes<'a>(pub &'a [u8]);
 
 impl fmt::Display for Bytes<'_> {

@@ -6,7 +6,7 @@ ghost use Rattle.shown.specs.Hex.{bytes_for, least_bytes};
 use std::fmt;
 
 /// A number in upper-case digits, with two at least for each of some bytes.
-#[derive(Clone, Copy)]
+#[derive(Clone, Copy, PartialEq, Eq, Debug)]
 pub struct Hex {
     pub value: u32,
     pub bytes: u8,

@@ -13,7 +13,7 @@ use engine::remainder::remainder_by;
 use engine::table::Table;
 
 // What new engines answer to one message: slicing, bitwise and table.
-#[derive(Clone, Copy)]
+#[derive(Clone, Copy, PartialEq, Eq, Debug)]
 pub struct Answers {
     pub slicing: Result<u32, Fault>,
     pub bitwise: Result<u32, Fault>,

@@ -6,7 +6,7 @@ use engine::register::Register;
 
 // The tables stand at the top of 32 bits: they are those of X^(32 - degree) times the generator.
 #[repr(C)]
-#[derive(Clone, Copy)]
+#[derive(Clone, Copy, PartialEq, Eq, Debug)]
 pub struct Slicing {
     pub(crate) register: Register,
     pub(crate) tables: [[u32; 256]; 16],

@@ -3,7 +3,6 @@ ghost use Rattle.std.specs.Prelude.{◌≡◌};
 ghost use Rattle.engine.specs.Meaning.{carries_all};
 ghost use Rattle.std.proofs.Common.{rules, arith};
 
-use crate::blocks::feed_string;
 use crate::slicing::Slicing;
 use crate::tables::tabulate_all;
 use answer::fault::Fault;
@@ -58,7 +57,7 @@ impl Engine for Slicing {
 
     // The register stands at the top of 32 bits while it is fed.
     fn feed_all(&mut self, bytes: &[u8]) {
-        let top = feed_string(&self.tables, self.register.at_top(), bytes);
+        let top = self.after_string(self.register.at_top(), bytes);
         self.register.set_from_top(top);
     }
 }

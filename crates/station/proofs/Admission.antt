@@ -1,11 +1,11 @@
 -- Every call keeps the entries of a book admitted.
 -- Assumes nothing.
-use Rattle.std.proofs.Common.{◌≡◌, ℕ, Bool, true, false, cond, ◌&&◌, eqb, ltb, List, [], ◌∷◌, ◌++◌, is_ok, Some, Ok, Err, Option, Result, refl, ap, ◌∙◌, arith}
+use Rattle.std.proofs.Common.{◌≡◌, ℕ, Bool, true, false, cond, ◌&&◌, eqb, ltb, List, [], ◌∷◌, ◌++◌, is_ok, Some, Ok, Err, Option, Result, sym, refl, ap, ◌∙◌, subst, arith}
 use Rattle.answer.specs.declared.fault.Layer.TheVariants.{Book}
 use Rattle.answer.specs.Refusal.{Refusal, refusal, if_ok}
 use Rattle.answer.specs.Rules.{then, need}
 use Rattle.code.specs.declared.description.Description.{Description}
-use Rattle.code.specs.Model.{Asked}
+use Rattle.code.specs.Model.{Asked, Model, asked}
 use Rattle.station.specs.declared.entry.Entry.{Entry}
 use Rattle.station.specs.Book.{PlainBook, book_of, entered, entry_of, held, held_in, narrowed_in, retired_in, with_reach}
 use Rattle.station.specs.Frame.{entry_at}
@@ -18,6 +18,10 @@ no_way e = absurd (omega (arith, e))
 
 and_true : (p q : Bool) → p ≡ true → q ≡ true → p && q ≡ true
 and_true p q e f = rw (e, f) refl
+
+-- entries stay admitted under other names of the same bank and the same book
+pub admitted_as : (m m' : Model) (b b' : PlainBook) → m' ≡ m → b' ≡ b → Admitted (asked m) b → Admitted (asked m') b'
+admitted_as m m' b b' e f p = subst (λ k. Admitted (asked k) b') (sym e) (subst (Admitted (asked m)) (sym f) p)
 
 module _ (a : Asked) where
   abbrev fine : Entry → Bool

@@ -2,6 +2,7 @@
 -- Assumes nothing.
 use Rattle.std.proofs.Common.{◌≡◌, ℕ, suc, min, Bool, true, false, cond, not, eqb, List, [], ◌∷◌, length, Some, None, Option, sym, refl, ap, ◌∙◌, arith, eq-eqb, eqb-true}
 use lib.Dec.{eqb-zero-suc, eqb-suc-zero, eqb-suc-suc}
+use Rattle.std.specs.Bool.{then_some}
 use Rattle.std.specs.List.{position, zip}
 use Rattle.std.specs.Option.{option_map, option_or}
 use Rattle.station.specs.Frame.{differ}
@@ -35,8 +36,16 @@ abbrev pub unlike : ℕ × ℕ → Bool
 unlike p = not (eqb p.0 p.1)
 
 -- where no pair differs
-abbrev pub ended : List ℕ → List ℕ → Option ℕ
+abbrev ended : List ℕ → List ℕ → Option ℕ
 ended xs ys = cond (eqb (length xs) (length ys)) None (Some (min (length xs) (length ys)))
+
+flagged : (b : Bool) (k : ℕ) → then_some (not b) k ≡ cond b None (Some k)
+flagged true k = refl
+flagged false k = refl
+
+-- .. as it is worked out
+pub by_flag : (n m k : ℕ) → k ≡ min n m → then_some (not (eqb n m)) k ≡ cond (eqb n m) None (Some (min n m))
+by_flag n m k e = flagged (eqb n m) k ∙ ap (λ j. cond (eqb n m) None (Some j)) e
 
 further : (o : Option ℕ) (b : Bool) (k : ℕ) → option_or (option_map suc o) (cond b None (Some (suc k))) ≡ option_map suc (option_or o (cond b None (Some k)))
 further (Some i) b k = refl

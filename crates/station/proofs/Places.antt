@@ -78,8 +78,12 @@ by_place : (es : List Entry) (n : ℕ) (o : Option ℕ) → placed es n ≡ o �
 by_place es n None p = ap is_some (off es n p).is_held
 by_place es n (Some i) p = ap is_some (at es n i p).is_held
 
-pub same_test : (es : List Entry) (n : ℕ) → is_some (held_in es n) ≡ is_some (placed es n)
+same_test : (es : List Entry) (n : ℕ) → is_some (held_in es n) ≡ is_some (placed es n)
 same_test es n = by_place es n (placed es n) refl
+
+-- whether the number is held, by a test of the place that was found
+pub held_when : (es : List Entry) (n : ℕ) (o : Option ℕ) (b : Bool) → o ≡ placed es n → b ≡ is_some o → is_some (held_in es n) ≡ b
+held_when es n o b p q = same_test es n ∙ sym (ap is_some p) ∙ sym q
 
 -- the place that `ok_or` and `?` go on with, or do not
 pub went_on : (o : Option ℕ) (i : ℕ) → ok_or o NotHeld ≡ Ok i → o ≡ Some i

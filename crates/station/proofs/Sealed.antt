@@ -124,7 +124,8 @@ fitting_sealed m keeps b all n message bytes room =
     let t = eq-eqb (length c) s.check long in
     rw t refl)
 
--- .. and so does every call whose bytes are bytes
+-- .. and so does every call whose bytes are bytes: over a bank that keeps the two laws the rule of the check's length refuses nothing.
+-- A theorem of its own, which no proof needs.
 pub fitting_answer : (m : Model) → Keeps m → (b : PlainBook) → Admitted (asked m) b → (c : Call) → Typed c
     → answer_fitting (asked m) b c ≡ answer (asked m) b c
 fitting_answer m keeps b all (change c) t = refl

@@ -6,12 +6,8 @@ pub(crate) fn first_difference(a: &[u8], b: &[u8]) -> Option<usize>
     ensures is { result ≡ differ a.now b.now }
     ensures within { IfSome result (λ i. i ≤ length a.now) }
 {
-    if let Some(i) = a.iter().zip(b).position(|(x, y)| x != y) {
-        return Some(i);
-    }
-    if a.len() == b.len() {
-        None
-    } else {
-        Some(a.len().min(b.len()))
-    }
+    a.iter()
+        .zip(b)
+        .position(|(x, y)| x != y)
+        .or((a.len() != b.len()).then_some(a.len().min(b.len())))
 }

@@ -1,6 +1,6 @@
 // The head of a frame.
 ghost use Rattle.std.specs.Prelude.{◌≡◌};
-ghost use Rattle.station.specs.Frame.{front, head};
+ghost use Rattle.station.specs.Frame.{head};
 
 use crate::ccitt::ccitt_of;
 use crate::layout::MARK;

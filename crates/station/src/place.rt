@@ -1,4 +1,4 @@
-// Bytes written at a place of an output.
+// The parts of a frame, written from the start of an output on.
 ghost use Rattle.std.specs.Prelude.{◌≡◌, ◌+◌, ◌≤◌, ◌++◌, length, drop};
 
 // Head, message and check, one after the other from the start on. Answers where they end.

@@ -1,5 +1,5 @@
 // The station: a bank and its book.
-ghost use Rattle.std.specs.Prelude.{◌≡◌, ◌^◌, ◌<◌, ◌≤◌, length};
+ghost use Rattle.std.specs.Prelude.{◌≡◌, length};
 ghost use Rattle.answer.specs.Refusal.{read};
 ghost use Rattle.code.specs.Model.{asked, length_of, written};
 ghost use Rattle.station.specs.Book.{empty_book};
@@ -99,6 +99,6 @@ impl<K: Kind> Station<K> {
     {
         let parts = parts_of(frame)?;
         let e = self.book.get(parts.number)?;
-        open(&mut self.bank, e, parts.coded, parts.word)
+        open(&mut self.bank, e, parts)
     }
 }

@@ -9,6 +9,7 @@ use crate::checking::check_of;
 use crate::difference::first_difference;
 use crate::entry::Entry;
 use crate::layout::SIZE;
+use crate::parts::Parts;
 use answer::fault::Fault;
 use answer::rules::need;
 use code::description::Description;
@@ -34,17 +35,13 @@ fn message_of<'f, K: Kind>(
     Ok(message)
 }
 
-// The message of a word, by the entry that its frame's number stands for.
-pub(crate) fn open<'f, K: Kind>(
-    bank: &mut K,
-    e: Entry,
-    coded: &[u8],
-    word: &'f [u8],
-) -> Result<&'f [u8], Fault>
-    ensures answer { seen result ≡ opened (asked (K.model bank.old)) e coded.now word.now }
+// The message of a frame's word, by the entry that its number stands for.
+pub(crate) fn open<'f, K: Kind>(bank: &mut K, e: Entry, parts: Parts<'f>) -> Result<&'f [u8], Fault>
+    ensures answer { seen result ≡ opened (asked (K.model bank.old)) e parts.entry.coded.now parts.entry.word.now }
     ensures same { K.model bank.new ≡ K.model bank.old }
 {
-    if let Some(i) = first_difference(coded, &<[u8; 10]>::from(e.description)) {
+    let word = parts.word;
+    if let Some(i) = first_difference(parts.coded, &<[u8; 10]>::from(e.description)) {
         return Err(Fault::Description(2 + i));
     }
     let sheet = bank.sheet(e.description)?;

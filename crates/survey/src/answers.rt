@@ -1,6 +1,7 @@
 // Every refusal of a line and of a station, through the call that gives it.
 use crate::answer_rows::*;
 use answer::fault::Fault;
+use code::catalogue::{ATM_HEC, CRC_16};
 use code::description::Description;
 use code::kind::Kind;
 use console::line::{Line, line_of};
@@ -9,9 +10,9 @@ use engine::engine::Engine;
 use engine::fast::Fast;
 use engine::table::Table;
 use kinds::three::{Kinds, three_kinds};
-use listing::descriptions::{CRC_16, HEC};
+use listing::frames;
+use listing::refusals::fault_or;
 use station::station::Station;
-use station::trial::*;
 use std::io;
 
 // Lines that are none, and the calls of the tables at one station; at last its book is full.
@@ -40,12 +41,12 @@ fn lines(rt: &impl Print) -> io::Result<()> {
 
 fn filled(rt: &impl Print, station: &mut Station<Kinds<Table>>) -> io::Result<()> {
     for number in 32..45u8 {
-        let _ = station.enter(number, HEC, 15);
+        let _ = station.enter(number, ATM_HEC, 15);
     }
     said(
         rt,
         "99 entered as the seventeenth",
-        station.enter(0x99, HEC, 15),
+        station.enter(0x99, ATM_HEC, 15),
     )
 }
 
@@ -67,7 +68,7 @@ fn frames(rt: &impl Print, station: &mut Station<Kinds<Table>>) -> io::Result<()
         said(rt, what, station.take(frame))?;
     }
     for (what, at, byte) in &TRIED {
-        let mut frame = GOOD;
+        let mut frame = frames::GOOD;
         said(rt, what, station.trial(&mut frame, *at, *byte))?;
     }
     Ok(())
@@ -87,8 +88,6 @@ fn sealed(
 
 // The number, and on a refusal its layer and its place.
 fn said<T: Drop>(rt: &impl Print, what: &str, answer: Result<T, Fault>) -> io::Result<()> {
-    match answer {
-        Ok(_) => println!(rt; "  {what}: 0"),
-        Err(fault) => println!(rt; "  {what}: {fault}"),
-    }
+    print!(rt; "  {what}: ")?;
+    fault_or(rt, "0", answer)
 }

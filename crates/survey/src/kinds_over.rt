@@ -1,7 +1,6 @@
 // Kinds 1 and 2 over every engine.
-use code::catalogue::published;
+use code::catalogue::{NAMES, published};
 use listing::asked::{Asked, Question};
-use listing::codes::NAMES;
 use listing::engines::by_engines;
 use std::io;
 
@@ -12,13 +11,7 @@ pub(crate) fn kinds_over(rt: &impl Print, engines: &[&dyn Asked]) -> io::Result<
         if let Some(d) = published(name) {
             if d.kind == 1 || d.kind == 2 {
                 print!(rt; "  {name}: 313233343536373839")?;
-                by_engines(
-                    rt,
-                    engines,
-                    "has",
-                    d.degree,
-                    Question::Check(d, b"123456789"),
-                )?;
+                by_engines(rt, engines, "has", Question::Check(d, b"123456789"))?;
             }
         }
     }

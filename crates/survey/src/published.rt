@@ -1,4 +1,5 @@
 // Published remainders and periods, to hold what is computed against.
+// Rows of tables are tuples, so that a row stays a line: as structs they have a line for each field. Each table names its columns.
 
 // Plain checks: name, degree, low part, message, remainder.
 pub(crate) const REMAINDERS: [(&str, u8, u32, &[u8], u32); 26] = [

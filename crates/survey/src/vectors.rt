@@ -12,12 +12,7 @@ pub(crate) fn vectors(rt: &impl Print, engines: &[&dyn Asked]) -> io::Result<()>
     for (name, degree, low, message, published) in &REMAINDERS {
         known(rt, name, *degree, *low, *published)?;
         print!(rt; "{}", Bytes(message))?;
-        leaves(
-            rt,
-            engines,
-            *degree,
-            Question::Remainder(*degree, *low, message),
-        )?;
+        leaves(rt, engines, Question::Remainder(*degree, *low, message))?;
     }
     println!(rt; "\nPublished periods")?;
     for (degree, low, published) in &PERIODS {

@@ -15,17 +15,15 @@ pub(crate) struct Sums {
     pub(crate) total: u32,
 }
 
-// The number in a tuple, first byte highest. A loop: the lemma of `fold` says nothing of how many bytes came, and up to four none is cut.
+// The number in a tuple, first byte highest.
 fn number<const N: usize>(tuple: &[u8; N]) -> u32
     requires { N ≤ 4 }
     ensures number { result ≡ string 8 tuple.now }
     ensures below { result < 2 ^ (8 * N) }
 {
-    let mut number = 0;
-    for byte in tuple {
-        number = (number << 8) ^ u32::from(*byte);
-    }
-    number
+    tuple
+        .iter()
+        .fold(0, |number, byte| (number << 8) ^ u32::from(*byte))
 }
 
 // Both sums, one step for each tuple of N bytes. The weighted sum stands at the top of 32 bits on the way, and the generator too.

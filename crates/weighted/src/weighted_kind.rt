@@ -17,6 +17,9 @@ use code::description::{Description, Sheet};
 use code::fields::{at_least, fitting, generator_at, lawful_reach};
 use code::kind::Kind;
 
+// the kind number
+const KIND: u8 = 3;
+
 #[derive(Clone, Copy, PartialEq, Eq, Debug)]
 pub struct WeightedSum;
 
@@ -24,7 +27,7 @@ pub struct WeightedSum;
 fn shape(d: Description) -> Result<(), Fault>
     ensures { read result ≡ by_rules (rule (d.kind == 3) (refusal 11 Kind 2) ∷ weighted_sizes d) tt }
 {
-    if d.kind != 3 {
+    if d.kind != KIND {
         return Err(Fault::Unserved);
     }
     if !matches!(d.degree, 8 | 16 | 32) {
@@ -116,7 +119,7 @@ impl Kind for WeightedSum {
     ghost keeps = { λ k. weighted-keeps };
 
     fn serves(&self, kind: u8) -> bool {
-        kind == 3
+        kind == KIND
     }
 
     fn admit(&mut self, d: Description, reach: u16) -> Result<(), Fault> {

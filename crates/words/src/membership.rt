@@ -9,5 +9,6 @@ pub fn checks_make_words() -> u8
     ensures parity { CrcParity-words }
     ensures weighted { Weighted-sums }
 {
+    // A number: of () every body is right, and so no wrong one could be told from this.
     0
 }

@@ -13,5 +13,6 @@ pub fn codes_notice() -> u8
     ensures parity { CrcParity-notices }
     ensures weighted { WeightedSum-notices }
 {
+    // A number: of () every body is right, and so no wrong one could be told from this.
     0
 }

@@ -1,25 +1,7 @@
 -- How kinds compare is a theorem: the function only names it.
 -- Assumes nothing.
-use Rattle.code.proofs.Comparing.{joined-answers, joined_matches, joined_means_the_same, crc_matches, crc_means_the_same, parity_matches, parity_means_the_same}
+use Rattle.code.proofs.Comparing.{joined_matches}
 use Rattle.code.proofs.compared.kinds_compare.Goals as goal
-
-pub returns-clause-bank : goal.returns-clause-bank
-returns-clause-bank c = joined-answers
 
 pub returns-clause-matching : goal.returns-clause-matching
 returns-clause-matching c = joined_matches
-
-pub returns-clause-same : goal.returns-clause-same
-returns-clause-same c = joined_means_the_same
-
-pub returns-clause-crc : goal.returns-clause-crc
-returns-clause-crc c = crc_matches
-
-pub returns-clause-crc_same : goal.returns-clause-crc_same
-returns-clause-crc_same c = crc_means_the_same
-
-pub returns-clause-parity : goal.returns-clause-parity
-returns-clause-parity c = parity_matches
-
-pub returns-clause-parity_same : goal.returns-clause-parity_same
-returns-clause-parity_same c = parity_means_the_same

@@ -8,7 +8,7 @@ use Rattle.console.specs.Lines.{lines_of}
 use Rattle.console.specs.declared.lines.Lines.{Lines}
 use Rattle.console.specs.Transcript.{transcript_from}
 use Rattle.console.proofs.Cuts.{few_lines}
-use Rattle.console.proofs.Turns.{turn, ended}
+use Rattle.console.proofs.Turns.{turn}
 use Rattle.console.proofs.transcript.obey_all.Goals as goal
 
 pub loop-i-init : goal.loop-i-init
@@ -51,12 +51,3 @@ loop-i-preserved g c =
       told.bank ∙ l.invariant.2,
       bound,
     )
-
-pub returns-clause-printed : goal.returns-clause-printed
-returns-clause-printed g c =
-    let l = c.loop-i in
-    let s = c.args.console.now.station in
-    let a = asked (g.K.Kind.model s.bank) in
-    let total = vec_items c.args.out.now ++ transcript_from a 1 (items s.book) (lines_of c.args.input.now) in
-    ended a (enumerate_count {I = Lines} l.i-iterator) (items l.console.station.book) (vec_items l.out) total (lines_of (enumerate_source {I = Lines} l.i-iterator).0.now)
-    c.in-None.ensures.steps.0.0 l.invariant.1

@@ -11,9 +11,6 @@ use Rattle.exports_station.specs.Forms.{book_with}
 use Rattle.exports_station.proofs.Again.{changed_once}
 use Rattle.exports_station.proofs.stationing.station_with.Goals as goal
 
-pub loop-c-init : goal.loop-c-init
-loop-c-init g c = (c.new-station.ensures.book, refl)
-
 pub loop-c-preserved : goal.loop-c-preserved
 loop-c-preserved g c =
     let m = g.K.Kind.model in

@@ -1,14 +1,19 @@
 -- Four words, each through its four tables.
 -- Assumes nothing.
-use Rattle.std.proofs.Common.{◌≡◌, ℕ, ◌+◌, ◌*◌, ◌/◌, ◌^◌, ◌<◌, List, [], length, get_or, sym, ap, ◌∙◌, subst, ap₂, arith, lit<}
+use Rattle.std.proofs.Common.{◌≡◌, ℕ, ◌+◌, ◌-◌, ◌*◌, ◌/◌, ◌^◌, ◌<◌, List, [], length, get_or, sym, ap, ◌∙◌, subst, ap₂, arith, lit<}
 use lib.Bits.{bit_xor, xor_lt}
 use Rattle.poly.specs.Poly.{rem}
+use Rattle.engine.proofs.Aligned.{up_lt}
 use Rattle.slicing.proofs.Chunks.{chunk_entry, chunk_word}
 use Rattle.slicing.proofs.Sixteen.{word_at, word_of_lem, word_bytes, sixteen-fed}
-use Rattle.slicing.proofs.blocks.feed_block.Goals as goal
+use Rattle.slicing.proofs.slicing.Slicing.after_block.Goals as goal
 
 pub returns : goal.returns
-returns c low small tables =
+returns c =
+    let s = c.args.self.now in
+    let g = s.register.generator in
+    let low = g.low * 2 ^ (32 - g.degree) in
+    let small = up_lt g.degree g.ok.1 g.low g.ok.2 in
     let b = c.args.block.now in
     let r = c.args.register in
     let words : List (List ℕ) = c.as_chunks.result.0.now in
@@ -28,10 +33,10 @@ returns c low small tables =
     ap₂ bit_xor
     (ap₂ bit_xor
     (ap₂ bit_xor
-    (c.look_up_word.ensures low small tables ∙ ap (λ w. rem 32 low (w * 2 ^ 96)) (word 1 (lit< tt)))
-    (c.look_up_word-2.ensures low small tables ∙ ap (λ w. rem 32 low (w * 2 ^ 64)) (word 2 (lit< tt))))
-    (c.look_up_word-3.ensures low small tables ∙ ap (λ w. rem 32 low (w * 2 ^ 32)) (word 3 (lit< tt))))
-    (c.look_up_word-4.ensures low small tables
+    (c.look_up_word.ensures ∙ ap (λ w. rem 32 low (w * 2 ^ 96)) (word 1 (lit< tt)))
+    (c.look_up_word-2.ensures ∙ ap (λ w. rem 32 low (w * 2 ^ 64)) (word 2 (lit< tt))))
+    (c.look_up_word-3.ensures ∙ ap (λ w. rem 32 low (w * 2 ^ 32)) (word 3 (lit< tt))))
+    (c.look_up_word-4.ensures
     ∙ ap (λ w. rem 32 low (w * 2 ^ 128))
     (ap (λ (ws : List ℕ). word_at ws 0) c.to_be_bytes.ensures
     ∙ word_bytes (bit_xor c.from_be_bytes.result r) (xor_lt 32 c.from_be_bytes.result r c.from_be_bytes.type_inv c.ranges.register.fits)

@@ -12,7 +12,7 @@ use Rattle.code.proofs.CrcLaws.{far_of}
 use Rattle.code.proofs.FieldRules.{proper_low_lem}
 use Rattle.code.proofs.Asking.{admit_refused, admit_then}
 use Rattle.crc.specs.Form.{over}
-use Rattle.crc.proofs.over_engine.OverEngine.admission.Goals as goal
+use Rattle.crc.proofs.over_engine.OverEngine.admitted.Goals as goal
 
 pub returns-in_err-generator-clause-answer : goal.returns-in_err-generator-clause-answer
 returns-in_err-generator-clause-answer g c =

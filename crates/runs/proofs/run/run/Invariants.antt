@@ -6,7 +6,7 @@ use Rattle.station.specs.Book.{empty_book}
 use Rattle.station.specs.Calls.{answers_from, run}
 use Rattle.station.specs.Items.{items}
 use Rattle.station.specs.Outcomes.{plain_calls, outcomes_seen}
-use Rattle.runs.proofs.run.run_all.Given as goal
+use Rattle.runs.proofs.run.run.Given as goal
 
 abbrev pub invariant-loop-call : goal.invariant-loop-call
 invariant-loop-call g l =
