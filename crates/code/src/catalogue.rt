@@ -65,7 +65,7 @@ pub const WSC_8: Description = Description {
     tuple: 1,
 };
 
-/// The names that `published` knows.
+/// The names that `published` knows. They stand there too: it is a rule that a name is matched against literal ones.
 pub const NAMES: [&str; 8] = [
     "CRC-16",
     "CRC-CCITT",

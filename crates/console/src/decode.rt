@@ -19,7 +19,7 @@ fn digit_value(c: u8) -> u8
 
 // Puts the bytes of the digits at the start of the buffer, and lends them. It refuses nothing: a decoder that refuses what is no digit, as the crate `hex`
 // does, would be unwrapped here, by a fact about the digits that every contract from `line_of` on had to hand down.
-// (An index, since nothing is known of what a loop over a `zip` with `iter_mut` writes.)
+// (By index: over a `zip` with `iter_mut` the goal `returns-clause-bytes` did not close, since nothing is known there of the bytes written.)
 pub(crate) fn decode<'b>(digits: &[u8], buffer: &'b mut [u8; LONGEST]) -> &'b [u8]
     requires { length digits.now ≤ 2 * LONGEST }
     ensures bytes { result.now ≡ decoded digits.now }

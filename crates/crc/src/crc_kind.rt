@@ -8,6 +8,8 @@ use answer::fault::Fault;
 use code::description::Sheet;
 use poly::generator::Generator;
 
+const KIND: u8 = 1;
+
 pub type Crc<E> = OverEngine<E, Plain>;
 
 // The check as it comes.
@@ -20,7 +22,7 @@ impl Form for Plain {
     ghost keeps = { crc-keeps };
 
     fn serves(kind: u8) -> bool {
-        kind == 1
+        kind == KIND
     }
 
     fn takes(degree: u8) -> bool {

@@ -9,6 +9,8 @@ use code::bytes::sum;
 use code::description::Sheet;
 use poly::generator::Generator;
 
+const KIND: u8 = 2;
+
 pub type CrcParity<E> = OverEngine<E, WithParity>;
 
 // The check with a bit of parity.
@@ -21,7 +23,7 @@ impl Form for WithParity {
     ghost keeps = { parity_keeps };
 
     fn serves(kind: u8) -> bool {
-        kind == 2
+        kind == KIND
     }
 
     fn takes(degree: u8) -> bool {

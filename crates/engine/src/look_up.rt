@@ -15,7 +15,7 @@ impl Register {
         self.value = self.moved_up() ^ entries[self.top_byte(q) as usize];
     }
 
-    // One byte after the other.
+    // One byte after the other: the loop that the trait provides, but of the register alone, which the ready-made engine makes once for a string.
     pub(crate) fn look_up_all(&mut self, entries: &[u32; 256], bytes: &[u8])
         requires { Entries self.old.generator.degree self.old.generator.low self.old.generator.degree entries.now }
         ensures generator { self.new.generator ≡ self.old.generator }

@@ -32,6 +32,7 @@ impl Engine for Table {
         Table { register, entries }
     }
 
+    // What it shares with the slicing engine's is `Register::set`: what is left is the tables of each, and no plainer in one function.
     fn set(&mut self, degree: u8, low: u32) -> Result<(), Fault> {
         let mut register = self.register;
         register.set(degree, low)?;

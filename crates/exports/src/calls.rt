@@ -1,5 +1,6 @@
 // What the exports do, for any engine.
-// The four exports of each engine are written out: for the C interface an `extern "C"` function takes no type parameter.
+// The four exports of each engine are written out: for the C interface an `extern "C"` function takes no type parameter, and a macro writes no
+// clause.
 ghost use Rattle.std.specs.Prelude.{◌≡◌, ℕ};
 ghost use Rattle.answer.specs.Refusal.{number_of, if_ok};
 ghost use Rattle.exports.specs.Calls.{setting};
@@ -8,7 +9,7 @@ ghost use Rattle.poly.specs.Poly.{remainder};
 use answer::reading::number_of;
 use engine::engine::Engine;
 
-// Sets the engine to X^degree + low, and answers 0 or the number of the refusal, which alters nothing.
+// Sets the engine to X^degree + low, and answers 0 or the number of the refusal, which alters nothing. A number: so the C interface has it.
 pub(crate) fn set_to<E: Engine>(engine: &mut E, degree: u8, low: u32) -> u8
     ensures answer { result ≡ number_of (setting (E.carries_of engine.old degree low) degree low) }
     ensures degree { E.degree_of engine.new ≡ if_ok (setting (E.carries_of engine.old degree low) degree low) degree (E.degree_of engine.old) }

@@ -7,7 +7,7 @@ use answer::fault::Fault;
 use poly::period::period;
 use poly::walk::Walk;
 
-// The answer of the period call as numbers.
+// The answer of the period call as numbers: so the C interface has it.
 #[repr(C)]
 #[derive(Clone, Copy, PartialEq, Eq, Debug)]
 pub struct PeriodAnswer {

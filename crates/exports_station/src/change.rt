@@ -1,4 +1,4 @@
-// A change of a book.
+// A change of a book. It is no `Call` of a station: a call lends the messages and frames that it shows, and these a change has not.
 use code::description::Description;
 
 #[derive(Clone, Copy, Debug, PartialEq, Eq)]

@@ -11,7 +11,7 @@ pub struct BookChange {
     pub reach: u16,
 }
 
-// The answer of a call.
+// The answer of a call, as the C interface has it.
 #[repr(C)]
 #[derive(Clone, Copy, Debug, PartialEq, Eq)]
 pub struct CallAnswer {

@@ -1,5 +1,6 @@
 // A station with its changes made, and the calls on it, over any bank. A call made `more` times more gives the same answer every time.
-// Each call has its own loop: of one loop around a closure, `again(station, more, |station| station.take(frame))`, the closure's goal `returns` did not close.
+// Each call has its own loop: of one loop around a closure, `again(station, more, |station| station.take(frame))`, the closure's goal `returns` did not close;
+// with a `&mut` closure `loop-preserved` did not.
 ghost use Rattle.std.specs.Prelude.{◌≡◌, ℕ, List, length};
 ghost use Rattle.answer.specs.Refusal.{read};
 ghost use Rattle.code.specs.Model.{asked, length_of, written};

@@ -99,7 +99,8 @@ impl<E: Engine + Copy + Drop> Asked for Named<E> {
     }
 }
 
-// The number whose bytes these are, the highest first.
+// The number whose bytes these are, the highest first. (Kind 3 has one of its own, of as many bytes as a constant says, and a polynomial for
+// contract: one for both would ask the caller for the length, and is no plainer.)
 fn number_from(bytes: &[u8]) -> u32
     ensures { result ≡ number_from bytes.now }
 {

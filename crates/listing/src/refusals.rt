@@ -11,6 +11,7 @@ use std::io;
 // Degrees and low parts that every engine refuses alike.
 const SETS: [(u8, u32); 4] = [(7, 0x07), (33, 0x07), (8, 0x06), (8, 0x0107)];
 
+// Degrees and low parts that the period call refuses.
 const WALKS: [(u8, u32); 4] = [(1, 0x01), (33, 0x01), (8, 0x06), (8, 0x0107)];
 
 /// Each way in which a set or the period call is refused.

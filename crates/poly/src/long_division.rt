@@ -1,4 +1,5 @@
-// Remainders by long division, bit by bit.
+// Remainders by long division, bit by bit. (How far up a generator of a lower degree stands, and its low part there, are worked out where they
+// are used: a struct of the two would be taken apart again in every line.)
 ghost use Rattle.std.specs.Prelude.{◌≡◌, ℕ, ◌*◌, ◌^◌};
 ghost use Rattle.poly.specs.Poly.{rem};
 

@@ -1,5 +1,6 @@
 // CRC-CCITT, the check of a head: X^16 + 1021 and its numbers. Number a is the remainder of a × X^16.
-// Not the look-up of the engines, whose register has 32 bits: the head has a constant table of its own, of numbers of 16 bits.
+// It is a rule that the head has a constant table of its own, of numbers of 16 bits, proved once: so this is not the look-up of the engines,
+// whose register has 32.
 ghost use Rattle.std.specs.Prelude.{◌≡◌, ◌/◌, ◌^◌, bit_xor};
 ghost use Rattle.engine.specs.Feed.{fed};
 ghost use Rattle.engine.specs.Tables.{Fixed};
