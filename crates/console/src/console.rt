@@ -60,7 +60,7 @@ impl<K: Kind> Console<K> {
         ensures printed { out.new.items ≡ out.old.items ++ if_ok result (printed_of (asked (K.model self.old.station.bank)) number (items self.old.station.book) (deed_of line.now)) [] }
         ensures book { items self.new.station.book ≡ if_ok result (book_after_line (asked (K.model self.old.station.bank)) (items self.old.station.book) (deed_of line.now)) (items self.old.station.book) }
         ensures bank { K.model self.new.station.bank ≡ K.model self.old.station.bank }
-        ensures needs { vec_len out.old + LINE ≤ vec_capacity out.old → is_ok result ≡ true }
+        ensures needs { vec_len out.old + 8300 ≤ vec_capacity out.old → is_ok result ≡ true }
     {
         out.reserve(LINE)?;
         self.print_line(number, line, out);

@@ -11,7 +11,7 @@ use Rattle.code.specs.declared.description.Description.{Description}
 use Rattle.code.proofs.FieldRules.{proper_low_lem}
 use Rattle.crc.specs.Form.{Formed, asks}
 
-after : (rules : List Rule) (carried : Bool) (h low : ℕ) → ◌≡◌ {A = Result (Unit {0}) Refusal} (Ok tt) (by_rules rules tt)
+pub after : (rules : List Rule) (carried : Bool) (h low : ℕ) → ◌≡◌ {A = Result (Unit {0}) Refusal} (Ok tt) (by_rules rules tt)
     → 8 ≤ h → h ≤ 32 → low < 2 ^ h → low % 2 ≡ 1
     → ◌≡◌ {A = Result (Unit {0}) Refusal} (by_rules (set_rules carried h low) tt) (by_rules (rules ++ (rule carried (refusal 15 Engine 4) ∷ [])) tt)
 after rules carried h low e least most small constant =

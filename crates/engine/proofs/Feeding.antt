@@ -23,6 +23,11 @@ fed_all_more h low r₀ bs i d l r s lt er ed el es =
     es ∙ ap₂ (λ d l. fed d l r (get_or bs i 0)) ed el ∙ ap (λ r. fed h low r (get_or bs i 0)) er
     ∙ sym (ap (fed_all h low r₀) (take_more bs i 0 lt) ∙ fed_all-append h low r₀ (take i bs) (get_or bs i 0 ∷ []))
 
+-- from a register of zero the fed byte leaves its entry of the table
+pub fed-zero : (h low a : ℕ) → fed h low 0 a ≡ rem h low (a * 2 ^ h)
+unfolding fed
+fed-zero h low a = refl
+
 module _ (h low : ℕ) (small : low < 2 ^ h) where
   -- ---- a byte more
 

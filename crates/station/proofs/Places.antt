@@ -78,7 +78,7 @@ by_place : (es : List Entry) (n : ℕ) (o : Option ℕ) → placed es n ≡ o �
 by_place es n None p = ap is_some (off es n p).is_held
 by_place es n (Some i) p = ap is_some (at es n i p).is_held
 
-same_test : (es : List Entry) (n : ℕ) → is_some (held_in es n) ≡ is_some (placed es n)
+pub same_test : (es : List Entry) (n : ℕ) → is_some (held_in es n) ≡ is_some (placed es n)
 same_test es n = by_place es n (placed es n) refl
 
 -- whether the number is held, by a test of the place that was found

@@ -1,10 +1,5 @@
 // The book: its entries, and the three changes of them.
-ghost use Rattle.std.specs.Prelude.{◌≡◌, ◌<◌, length, IfSome};
-ghost use Rattle.answer.specs.Refusal.{read, if_ok};
-ghost use Rattle.station.specs.Book.{empty_book, entered, narrowed, retired};
-ghost use Rattle.station.specs.Frame.{entry_at};
-ghost use Rattle.station.specs.Calls.{retiring};
-ghost use Rattle.station.specs.Items.{items, placed, adding};
+ghost use Rattle.std.specs.Prelude.{◌≡◌, ◌<◌, ◌≤◌, length, IfSome};
 
 use crate::entry::Entry;
 use answer::fault::Fault;
@@ -14,9 +9,16 @@ use arrayvec::ArrayVec;
 #[derive(Debug, Drop)]
 pub struct Book {
     entries: ArrayVec<Entry, 16>,
+    ghost fits: { length entries.items ≤ 16 },
 }
 
 impl Book {
+    ghost use Rattle.answer.specs.Refusal.{read, if_ok};
+    ghost use Rattle.station.specs.Book.{empty_book, entered, narrowed, retired};
+    ghost use Rattle.station.specs.Frame.{entry_at};
+    ghost use Rattle.station.specs.Calls.{retiring};
+    ghost use Rattle.station.specs.Items.{items, placed, adding};
+
     pub(crate) fn new() -> Book
         ensures { items result ≡ empty_book }
     {
